@@ -11,7 +11,7 @@ use Rattle.mk_io.specs.declared.status.Status.TheVariants.{WriteFault, Memory, T
 use Rattle.mk_io.specs.declared.status.Status.TheVariants.{DiskFault, StoreRefused}
 use Rattle.mk_io.specs.Outside.{append_known, Rose}
 use Rattle.mk_io.proofs.Told.{append_known_none}
-use Rattle.mk_exact.specs.Market.{Market}
+use Rattle.mk_exact.specs.Market.{Market, present}
 use Rattle.mk_exact.specs.History.{Entry, revision}
 use Rattle.mk_file.specs.declared.fault.FileFault.{FileFault}
 use Rattle.mk_file.specs.declared.fault.FileFault.TheVariants.{TooLong, Memory as FileMemory}
@@ -30,7 +30,9 @@ use Rattle.mk_session.specs.Begins.{CanBegin}
 use Rattle.mk_rules.specs.Standings.{IsMarket, IsReady, Stands}
 use Rattle.mk_rules.specs.Transcript.{Standing}
 use Rattle.mk_rules.proofs.Ready.{unquoted_is_ready}
+use Rattle.mk_rules.proofs.Follows.{bounded_in}
 use Rattle.mk_restore.specs.Laws.{IsSafe}
+use Rattle.mk_market.specs.Trading.{Trading, IsAt}
 use Rattle.mk_session.specs.Complete.{AreWithin}
 use Rattle.mk_session.specs.Outcome.{Adds, Refuses, Serves, IsServed, EndsRun, HasCauses}
 use Rattle.mk_session.specs.Outcome.{HasKeepCauses}
@@ -312,35 +314,36 @@ resumes_as_before file stored images middle c is_image no_more (inr new) = inr (
 -- the history that an honest file gives back stands
 pub stands_given : (market : Market) (file stored : List ℕ) (records : List (List ℕ))
     (history : List Entry) → IsHonest market file stored
-    → GivesBack market file stored records history → Stands market history
+    → GivesBack market file stored records history → Stands (present market history) history
 stands_given market file stored records history honest gives =
-    subst (λ (H : List Entry). Stands market H)
+    subst (λ (H : List Entry). Stands (present market H) H)
     (gives_one market file stored honest.records records honest.history history honest.gives
     gives).1 honest.stands
 
--- a market that stands at the history that its store gave back can go on from there
-pub can_go_on : (market : Market) (standing : Standing) → IsMarket market
-    → standing ≡ unquoted standing.history → Stands market standing.history
-    → IsSafe market standing.history → CanBegin market standing
-can_go_on market standing is_market quotes stands safe = record {
+-- the market of a file that stands at the history that its store gave back can go on from there
+pub can_go_on : (market : Market) (now : Trading) → IsMarket market → IsAt market now
+    → now.standing ≡ unquoted now.standing.history
+    → Stands (present market now.standing.history) now.standing.history
+    → IsSafe now.market now.standing.history → CanBegin market now.standing
+can_go_on market now is_market here quotes stands safe = record {
   is_market = is_market;
-  ready = subst (λ (s : Standing). IsReady market s) (sym quotes)
-      (unquoted_is_ready market standing.history stands);
-  bounded = safe.bounded;
+  ready = subst (λ (s : Standing). IsReady (present market now.standing.history) s) (sym quotes)
+      (unquoted_is_ready (present market now.standing.history) now.standing.history stands);
+  bounded = bounded_in now.market market now.standing.history
+      (ap (λ (m : Market). m.max_trades) here) safe.bounded;
 }
 
-module _ (market new : Market) (standing : Standing) (count : ℕ) (same : new ≡ market)
+module _ (market : Market) (standing : Standing) (count : ℕ)
     (quotes : standing ≡ unquoted standing.history) (number : count ≡ revision standing.history)
     (file stored all : List ℕ) (records : List (List ℕ))
     (gives : GivesBack market file stored records standing.history)
     (before written : Option (List ℕ)) where
-  is_resumed : started new standing (Some count) ≡ resumed market standing.history
-  is_resumed = ap (λ (m : Market). started m standing (Some count)) same
-      ∙ ap₂ (λ (s : Standing) (n : ℕ). started market s (Some n)) quotes number
+  is_resumed : started market standing (Some count) ≡ resumed market standing.history
+  is_resumed = ap₂ (λ (s : Standing) (n : ℕ). started market s (Some n)) quotes number
 
   -- the run goes on from the history that the store gave back
   pub carried_on : (status : Status) (source : Option (List ℕ))
-      → IsServed status (started new standing (Some count)) all source before written
+      → IsServed status (started market standing (Some count)) all source before written
       → OpenedKeep status (Ok market) file stored all source before written
   carried_on status source served = record {
     rest = served.rest;
@@ -362,7 +365,7 @@ module _ (market new : Market) (standing : Standing) (count : ℕ) (same : new �
   pub kept_on : (images images_now : List ℕ → Type 0) (first mid last : ℕ)
       (past between since : ℕ → List ℕ → Type 0)
       → LeavesOnly first mid past between (IsAsBefore file images)
-      → IsLeft (started new standing (Some count)) all before written records
+      → IsLeft (started market standing (Some count)) all before written records
       (LeavesSince (λ together least. (c : List ℕ) → images_now c → IsFront file together least c)
       (λ together least. LeavesOnly mid last between since (IsFront file together least))
       (length records))

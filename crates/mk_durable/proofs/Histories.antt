@@ -2,7 +2,7 @@
 use Rattle.std.proofs.Common.{◌≡◌, ℕ, zero, suc, List, [], ◌∷◌, ◌++◌, length, take}
 use Rattle.std.proofs.Common.{refl, sym, ap, subst}
 use Rattle.mk_exact.specs.History.{Entry}
-use Rattle.mk_exact.specs.Market.{Market}
+use Rattle.mk_exact.specs.Market.{Market, present}
 use Rattle.mk_command.specs.declared.command.Command.{Command}
 use Rattle.mk_reply.specs.declared.reply.Reply.{Reply}
 use Rattle.mk_restore.specs.Restoring.{Changes, IsRecord, IsFit, Restores}
@@ -100,4 +100,5 @@ none_unfit market old new records number taken bad =
     } in
     let same = one_history market old middle.0 bad.history bad.before before bad.taken in
     bad.unfit (next.change.0) (next.change.1) next.is
-    (subst (λ (H : List Entry). IsFit market H (next.change.0) (next.change.1)) same middle.2.0)
+    (subst (λ (H : List Entry). IsFit (present market H) H (next.change.0) (next.change.1)) same
+    middle.2.0)

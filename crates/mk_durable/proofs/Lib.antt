@@ -6,6 +6,7 @@ pub mod Taking
 pub mod Numbers
 pub mod Keeping
 pub mod Found
+pub mod Moving
 pub mod Steps
 pub mod Applied
 pub mod Carrying

@@ -2,11 +2,11 @@
 use Rattle.std.proofs.Common.{◌≡◌, inl, inr, ℕ, ◌+◌, ◌-◌, ◌≤◌, List, [], ◌++◌, length, take, drop}
 use Rattle.std.proofs.Common.{⊎_elim, refl, sym, ◌∙◌, ap, subst, arith, take-append-drop}
 use Rattle.std.proofs.Math.Seq.{take-append-add}
-use Rattle.mk_exact.specs.Market.{Market}
+use Rattle.mk_exact.specs.Market.{Market, present}
 use Rattle.mk_reply.specs.declared.reply.Reply.{Reply}
 use Rattle.mk_rules.specs.Standings.{IsMarket, Stands}
 use Rattle.mk_rules.specs.Transcript.{Standing, Line, Run}
-use Rattle.mk_rules.proofs.Keeps.{opening_stands}
+use Rattle.mk_rules.proofs.Keeps.{opening_present}
 use Rattle.mk_restore.specs.Restoring.{Changes, changes_of}
 use Rattle.mk_restore.proofs.Joined.{restores_join}
 use Rattle.mk_restore.proofs.Taken.{front_stands}
@@ -26,13 +26,14 @@ none_honest market bytes file is_market stands_for = record {
     stands_for = stands_for;
     taken = record { changes = []; are = tt; restores = refl };
   };
-  stands = opening_stands market is_market;
+  stands = opening_present market is_market;
 }
 
 -- the first of the records of a run behind those before it
 pub front_honest : (market : Market) (bytes : List ℕ) (records more : List (List ℕ))
     (old new : Standing) (lines : List Line) (replies : List Reply) (least : ℕ) (c : List ℕ)
-    → AreTakenBack market [] records old.history → Stands market old.history
+    → AreTakenBack market [] records old.history
+    → Stands (present market old.history) old.history
     → Run market old lines replies new
     → AreRecordsOf more (changes_of market old lines replies)
     → length records ≤ least → IsFront bytes (records ++ more) least c

@@ -5,7 +5,7 @@ use Rattle.std.proofs.lemmas.List.{take_more, drop_more, map-append, length-map,
 use Rattle.std.specs.Prelude.{Vec}
 use Rattle.std.specs.declared.alloc.Global.{Global}
 use Rattle.mk_exact.specs.History.{Entry}
-use Rattle.mk_exact.specs.Market.{Market}
+use Rattle.mk_exact.specs.Market.{Market, present}
 use Rattle.mk_journal.specs.Opening.{contents}
 use Rattle.mk_market.specs.declared.restoring.RestoreFault.{RestoreFault}
 use Rattle.mk_market.specs.declared.restoring.RestoreFault.TheVariants.{Unfit, Memory}
@@ -25,7 +25,7 @@ contents_more records i v within is =
 pub first_unfit : (market : Market) (old now : List Entry) (records : List (Vec ℕ Global)) (i : ℕ)
     (v : Vec ℕ Global) (bytes : List ℕ) → i < length records → v ≡ get_or records i v
     → bytes ≡ v.items → AreTakenBack market old (contents (take i records)) now
-    → IsUnfit market now bytes → IsFirstUnfit market old (contents records) (i + 1)
+    → IsUnfit (present market now) now bytes → IsFirstUnfit market old (contents records) (i + 1)
 first_unfit market old now records i v bytes within is same taken unfit = record {
   before = contents (take i records);
   next = bytes;

@@ -3,7 +3,7 @@ use Rattle.std.proofs.Common.{◌≡◌, ◌≢◌, ℕ, List, [], ◌∷◌, �
 use Rattle.std.specs.List.{AllByRecursion}
 use Rattle.std.proofs.lemmas.List.Elements.{recursion_from_All}
 use Rattle.mk_exact.specs.History.{Entry}
-use Rattle.mk_exact.specs.Market.{Market}
+use Rattle.mk_exact.specs.Market.{Market, present}
 use Rattle.mk_command.specs.declared.command.Command.{Command}
 use Rattle.mk_command.specs.Commands.{IsCommand, command_text}
 use Rattle.mk_reply.specs.declared.reply.Reply.{Reply}
@@ -63,31 +63,30 @@ unfit_record market H bytes command reply is refused other another so fits =
     refused (subst (λ (c : Command). IsFit market H c reply) same.0
     (subst (λ (r : Reply). IsFit market H other r) same.1 fits))
 
--- one record more is taken back, and nobody is quoted anything still
-pub record HasOneMore (market : Market) (old : List Entry) (records : List (List ℕ))
-    (bytes : List ℕ) (new : Standing) : Type 0 where
-  pub taken : AreTakenBack market old (records ++ bytes ∷ []) new.history
-  pub quotes : new ≡ unquoted new.history
-
-pub one_more : (market : Market) (old : List Entry) (records : List (List ℕ)) (bytes : List ℕ)
-    (now new : Standing) → AreTakenBack market old records now.history
-    → now ≡ unquoted now.history → IsTakenBack market now bytes new
-    → HasOneMore market old records bytes new
-one_more market old records bytes now new taken quotes next =
+-- nobody is quoted anything behind one record more
+pub quotes_more : (market : Market) (bytes : List ℕ) (now new : Standing)
+    → now ≡ unquoted now.history → IsTakenBack market now bytes new → new ≡ unquoted new.history
+quotes_more market bytes now new quotes next =
     let to : Standing = after market now (OfCommand next.command) next.reply in
     let history : new.history ≡ to.history = ap (λ (s : Standing). s.history) next.next in
     let nobody : to.quotes ≡ no_quotes to.history =
     ap (λ (s : Standing). next_quotes market now.history s.quotes next.command next.reply) quotes
     ∙ fit_quotes_nobody market now.history next.command next.reply next.fits in
+    next.next
+    ∙ ap (λ (q : _). record { history = to.history; quotes = q }) nobody
+    ∙ ap unquoted (sym history)
+
+-- and it is taken back with those before it
+pub taken_more : (market : Market) (old : List Entry) (records : List (List ℕ)) (bytes : List ℕ)
+    (now new : Standing) → AreTakenBack market old records now.history
+    → IsTakenBack (present market now.history) now bytes new
+    → AreTakenBack market old (records ++ bytes ∷ []) new.history
+taken_more market old records bytes now new taken next =
+    let change : Command × Reply = (next.command, next.reply) in
     record {
-      taken = record {
-        changes = taken.changes ++ (next.command, next.reply) ∷ [];
-        are = records_behind records (bytes ∷ []) taken.changes ((next.command, next.reply) ∷ [])
-            taken.are (next.is, tt);
-        restores = restores_join market old now.history new.history taken.changes
-            ((next.command, next.reply) ∷ []) taken.restores (next.fits, history);
-      };
-      quotes = next.next
-          ∙ ap (λ (q : _). record { history = to.history; quotes = q }) nobody
-          ∙ ap unquoted (sym history);
+      changes = taken.changes ++ change ∷ [];
+      are = records_behind records (bytes ∷ []) taken.changes (change ∷ []) taken.are
+          (next.is, tt);
+      restores = restores_join market old now.history new.history taken.changes (change ∷ [])
+          taken.restores (next.fits, ap (λ (s : Standing). s.history) next.next);
     }

@@ -5,7 +5,7 @@ use Rattle.mk_io.specs.declared.status.Status.{Status}
 use Rattle.mk_io.specs.declared.status.Status.TheVariants.{Done, Usage, MarketRefused, ReadFault}
 use Rattle.mk_io.specs.declared.status.Status.TheVariants.{WriteFault, Memory, TooMany}
 use Rattle.mk_io.specs.declared.status.Status.TheVariants.{DiskFault, StoreRefused}
-use Rattle.mk_exact.specs.Market.{Market}
+use Rattle.mk_exact.specs.Market.{Market, present}
 use Rattle.mk_exact.specs.History.{Entry}
 use Rattle.mk_file.specs.declared.fault.FileFault.{FileFault}
 use Rattle.mk_file.specs.File.{file_of}
@@ -96,7 +96,7 @@ KeepOutcome status file stored all source before written =
 -- whatever history a store gives back to a market, it stands
 abbrev pub GivesSound : Market → List ℕ → List ℕ → Type 0
 GivesSound market file stored = (records : List (List ℕ)) (history : List Entry)
-    → GivesBack market file stored records history → Stands market history
+    → GivesBack market file stored records history → Stands (present market history) history
 
 -- so it is for the market of a file, if that has one
 abbrev pub IsSoundStore : List ℕ → List ℕ → Type 0

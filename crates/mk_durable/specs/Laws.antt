@@ -2,7 +2,7 @@
 -- so proved.
 use Rattle.std.specs.Prelude.{◌≡◌, ◌⊎◌, ℕ, ◌≤◌, List, [], ◌++◌, length}
 use Rattle.mk_exact.specs.History.{Entry}
-use Rattle.mk_exact.specs.Market.{Market}
+use Rattle.mk_exact.specs.Market.{Market, present}
 use Rattle.mk_reply.specs.declared.reply.Reply.{Reply}
 use Rattle.mk_rules.specs.Standings.{IsMarket, Stands}
 use Rattle.mk_rules.specs.Transcript.{Standing, Line, Run}
@@ -45,7 +45,8 @@ pub record StaysHonest : Type 0 where
       → IsHonest market bytes c
   pub running : (market : Market) (bytes : List ℕ) (records more : List (List ℕ))
       (old new : Standing) (lines : List Line) (replies : List Reply) (least : ℕ) (c : List ℕ)
-      → AreTakenBack market [] records old.history → Stands market old.history
+      → AreTakenBack market [] records old.history
+      → Stands (present market old.history) old.history
       → Run market old lines replies new
       → AreRecordsOf more (changes_of market old lines replies)
       → length records ≤ least → IsFront bytes (records ++ more) least c

@@ -1,5 +1,6 @@
 pub mod Recovery
 pub mod Resuming
+pub mod Suiting
 pub mod KeepOutcome
 pub mod Laws
 pub mod Applying

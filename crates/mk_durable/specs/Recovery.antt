@@ -3,7 +3,7 @@
 use Rattle.std.specs.Prelude.{◌≡◌, ◌⊎◌, ℕ, ◌+◌, List, [], ◌∷◌, ◌++◌, length}
 use Rattle.std.specs.List.{AllZip}
 use Rattle.mk_exact.specs.History.{Entry}
-use Rattle.mk_exact.specs.Market.{Market}
+use Rattle.mk_exact.specs.Market.{Market, present}
 use Rattle.mk_command.specs.declared.command.Command.{Command}
 use Rattle.mk_reply.specs.declared.reply.Reply.{Reply}
 use Rattle.mk_rules.specs.Quotes.{no_quotes}
@@ -17,7 +17,7 @@ use Rattle.mk_session.specs.Left.{IsRecordOf}
 abbrev pub AreRecordsOf : List (List ℕ) → Changes → Type 0
 AreRecordsOf records changes = AllZip IsRecordOf records changes
 
--- the change of a record is taken back, and the standing moves on by it
+-- the change of a record is taken back by a market as it stands, and the standing moves on by it
 pub record IsTakenBack (market : Market) (old : Standing) (bytes : List ℕ)
     (new : Standing) : Type 0 where
   pub command : Command
@@ -49,9 +49,9 @@ pub record IsHonest (market : Market) (bytes file : List ℕ) : Type 0 where
   pub records : List (List ℕ)
   pub history : List Entry
   pub gives : GivesBack market bytes file records history
-  pub stands : Stands market history
+  pub stands : Stands (present market history) history
 
--- a record of no change that a history takes back
+-- a record of no change that a market as it stands takes back behind a history
 abbrev pub IsUnfit : Market → List Entry → List ℕ → Type 0
 IsUnfit market H bytes = (command : Command) (reply : Reply)
     → IsRecord bytes command reply → IsFit market H command reply → ⊥
@@ -66,7 +66,7 @@ pub record IsFirstUnfit (market : Market) (old : List Entry) (records : List (Li
   pub place : number ≡ length before + 1
   pub history : List Entry
   pub taken : AreTakenBack market old before history
-  pub unfit : IsUnfit market history next
+  pub unfit : IsUnfit (present market history) history next
 
 -- the record of this number, from one on, is malformed, and all before it are taken back
 pub record IsMalformedAt (market : Market) (bytes file : List ℕ) (number : ℕ) : Type 0 where

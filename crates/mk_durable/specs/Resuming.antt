@@ -1,4 +1,5 @@
--- The faults of taking records back and of an opening, and what each says.
+-- The faults of taking records back and of an opening, and what each says. A market that is named
+-- beside a file or a list of records is its file's.
 use Rattle.std.specs.Prelude.{◌≡◌, ℕ, List, [], length, Option}
 use Rattle.mk_disk.specs.Disk.{Rose}
 use Rattle.mk_exact.specs.History.{Entry}

@@ -10,12 +10,15 @@ ghost use Rattle.mk_rules.specs.Standings.{IsMarket};
 ghost use Rattle.mk_tree.specs.Checked.{IsTreeOf};
 ghost use Rattle.mk_file.specs.MarketOf.{market_of};
 ghost use Rattle.mk_file.specs.File.{max_file_bytes};
+ghost use Rattle.mk_market.specs.Trading.{IsAt};
 ghost use Rattle.mk_journal.specs.Store.{IsUnstarted, StandsFor};
 ghost use Rattle.mk_journal.specs.Keepers.{IsHeld, IsReady};
 ghost use Rattle.mk_journal.specs.Market.{IsFront};
 ghost use Rattle.mk_journal.specs.Moments.{LeavesOnly};
 ghost use Rattle.mk_durable.specs.Recovery.{unquoted};
 ghost use Rattle.mk_durable.specs.Resuming.{IsCounted, IsRefused, IfForeign, IsResumed};
+ghost use Rattle.mk_durable.specs.Suiting.{SuitsAll};
+ghost use Rattle.mk_market.specs.Suited.{SuitsNext};
 ghost use Rattle.mk_durable.specs.Applying.{records_made, IsApplied};
 ghost use Rattle.mk_durable.specs.declared.durable.DurableFault.TheVariants.{Disk, Closed};
 
@@ -70,15 +73,16 @@ fn answer_and_keep<P: Engine<SumProd>, A: Engine<MinProd>, K: Disk>(
     disk: &mut K,
     command: &Command,
 ) -> Result<Reply, DiskFailed>
-    requires is_market { IsMarket market.old.market }
     requires numbers { HasShortNumbers command.now }
+    requires prices { SuitsNext P.suits market.old command.now }
+    requires assets { SuitsNext A.suits market.old command.now }
     requires ready { IsReady (K.is_open disk.old) (K.file disk.old (K.open_name disk.old))
         store.old (revision (market.old.standing).history) }
     ensures cause { HasCause (K.faults disk.old) (K.faults disk.new) result }
     ensures ready { OnOk result (IsReady (K.is_open disk.new)
         (K.file disk.new (K.open_name disk.new)) store.new
         (revision (market.new.standing).history)) }
-    ensures market { market.new.market ≡ market.old.market }
+    ensures is_market { IsMarket market.new.market }
     ensures applied { IsApplied market.old market.new command.now
         (λ reply. IfOk result (λ told. told ≡ reply)) }
     ensures kept { (n bytes : List ℕ) (records : List (List ℕ)) → n ≡ K.open_name disk.old →
@@ -110,14 +114,14 @@ impl<P: Engine<SumProd>, A: Engine<MinProd>> Durable<P, A> {
         disk: &mut K,
     ) -> Result<Durable<P, A>, ResumeFault>
         requires tree { IsTreeOf file.net file.tree }
-        requires prices { P.suits file.net file.tree }
-        requires assets { A.suits file.net file.tree }
+        requires prices { SuitsAll P.suits }
+        requires assets { SuitsAll A.suits }
         requires size { length bytes.now ≤ max_file_bytes }
         requires is_open { IsTrue (K.is_open disk.old) }
         ensures ok { OnOk result (K.faults disk.new ≡ K.faults disk.old) }
         ensures fault { IfErr result (IsCounted (K.faults disk.old) (K.faults disk.new)) }
         ensures stays_name { K.open_name disk.new ≡ K.open_name disk.old }
-        ensures market { IfOk result (λ it. it.trading.market ≡ market_of file) }
+        ensures market { IfOk result (λ it. IsAt (market_of file) it.trading) }
         ensures open { IfOk result (λ it. it.closed ≡ false) }
         ensures quotes { IfOk result
             (λ it. it.trading.standing ≡ unquoted it.trading.standing.history) }
@@ -141,6 +145,8 @@ impl<P: Engine<SumProd>, A: Engine<MinProd>> Durable<P, A> {
         let group = Group::start(alloc)?;
         let mut market = Market::start(alloc, file)?;
         let resumed = resume(alloc, &mut market, &header, group, disk)?;
+        // Its clause says that this is a market, as each durable one is.
+        let _ = market.history();
         Ok(Durable {
             market,
             store: resumed.store,
@@ -157,6 +163,8 @@ impl<P: Engine<SumProd>, A: Engine<MinProd>> Durable<P, A> {
         command: &Command,
     ) -> Result<Reply, DurableFault>
         requires numbers { HasShortNumbers command.now }
+        requires prices { SuitsNext P.suits self.old.trading command.now }
+        requires assets { SuitsNext A.suits self.old.trading command.now }
         requires ready { self.old.closed ≡ false → IsReady (K.is_open disk.old)
             (K.file disk.old (K.open_name disk.old)) self.old.store
             (revision self.old.trading.standing.history) }

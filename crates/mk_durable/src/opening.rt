@@ -1,15 +1,16 @@
 //! The opening of a store for a market, with the changes that it gives back.
 
-ghost use Rattle.std.specs.Prelude.{◌≡◌, ◌⊎◌, ◌^◌, ◌<◌, ◌≤◌, ℕ, List, [], length};
+ghost use Rattle.std.specs.Prelude.{◌≡◌, ◌⊎◌, ◌+◌, ◌^◌, ◌<◌, ◌≤◌, ℕ, List, [], length};
 ghost use Rattle.std.specs.Prelude.{Some, IsTrue, IfErr, IfOk, OnOk};
 ghost use Rattle.mk_journal.specs.Store.{begun, IsUnstarted, StandsFor};
 ghost use Rattle.mk_journal.specs.Moments.{LeavesOnly};
 ghost use Rattle.mk_journal.specs.Keepers.{IsReady};
-ghost use Rattle.mk_exact.specs.History.{revision};
-ghost use Rattle.mk_rules.specs.Standings.{IsMarket};
+ghost use Rattle.mk_exact.specs.History.{additions, revision};
 ghost use Rattle.mk_rules.specs.Transcript.{opening};
+ghost use Rattle.mk_market.specs.Trading.{IsAt};
 ghost use Rattle.mk_durable.specs.Recovery.{unquoted};
 ghost use Rattle.mk_durable.specs.Resuming.{IsCounted, IsRefused, IfForeign, IsResumed};
+ghost use Rattle.mk_durable.specs.Suiting.{SuitsAll};
 
 use crate::fault::{ResumeFault, StoreFault};
 use crate::restoring::restore_all;
@@ -42,7 +43,8 @@ pub fn resume<P: Engine<SumProd>, A: Engine<MinProd>, K: Disk>(
     group: Group,
     disk: &mut K,
 ) -> Result<Resumed, ResumeFault>
-    requires is_market { IsMarket market.old.market }
+    requires prices { SuitsAll P.suits }
+    requires assets { SuitsAll A.suits }
     requires opening { market.old.standing ≡ opening }
     requires none_waits { group ≡ [] }
     requires is_open { IsTrue (K.is_open disk.old) }
@@ -53,14 +55,16 @@ pub fn resume<P: Engine<SumProd>, A: Engine<MinProd>, K: Disk>(
     ensures fault { IfErr result (IsCounted (K.faults disk.old) (K.faults disk.new)) }
     ensures stays { K.is_open disk.new ≡ K.is_open disk.old }
     ensures stays_name { K.open_name disk.new ≡ K.open_name disk.old }
-    ensures market { market.new.market ≡ market.old.market }
+    ensures market { IsAt market.old.market market.new }
     ensures quotes { market.new.standing ≡ unquoted (market.new.standing).history }
     ensures resumed { (n bytes f : List ℕ) → n ≡ K.open_name disk.old →
         header.now ≡ begun bytes → K.file disk.old n ≡ Some f →
         IfOk result (λ it. IsResumed market.old.market bytes f (market.new.standing).history
         (K.file disk.new n) (K.may_leave disk.new n) it.store it.count) }
     ensures count { IfOk result (λ it. it.count ≡ revision (market.new.standing).history) }
-    ensures few { IfOk result (λ it. it.count ≤ 131585) }
+    ensures few { IfOk result (λ it.
+        it.count ≤ 131585 + length (additions (market.new.standing).history)) }
+    ensures few_added { OnOk result (length (additions (market.new.standing).history) ≤ 255) }
     ensures ready { IfOk result (λ it. IsReady (K.is_open disk.new)
         (K.file disk.new (K.open_name disk.new)) it.store it.count) }
     ensures refused { (n bytes f : List ℕ) → n ≡ K.open_name disk.old →

@@ -2,7 +2,10 @@
 
 ghost use Rattle.std.specs.Prelude.{◌≡◌, ◌≢◌, List, ℕ, ◌∷◌, ◌++◌, All, MatchOption};
 ghost use Rattle.std.specs.Prelude.{Err, OnOk, OnErr};
+ghost use Rattle.mk_exact.specs.Market.{Market as FileMarket};
+ghost use Rattle.mk_market.specs.Trading.{IsAt};
 ghost use Rattle.mk_durable.specs.Recovery.{IsTakenBack, IsUnfit};
+ghost use Rattle.mk_durable.specs.Suiting.{SuitsAll};
 ghost use Rattle.mk_market.specs.declared.restoring.RestoreFault.TheVariants.{Unfit};
 
 use mk_command::{Words, read_command};
@@ -34,7 +37,9 @@ pub fn take_back<P: Engine<SumProd>, A: Engine<MinProd>>(
     bytes: &[u8],
     words: &mut Words,
 ) -> Result<(), RestoreFault>
-    ensures market { market.new.market ≡ market.old.market }
+    requires prices { SuitsAll P.suits }
+    requires assets { SuitsAll A.suits }
+    ensures market { (start : FileMarket) → IsAt start market.old → IsAt start market.new }
     ensures taken { OnOk result (IsTakenBack market.old.market market.old.standing bytes.now
         market.new.standing) }
     ensures unfit { result ≡ Err Unfit →

@@ -1,9 +1,12 @@
 //! Taking back the records of a store, one after another.
 
 ghost use Rattle.std.specs.Prelude.{◌≡◌, IfErr, OnOk};
+ghost use Rattle.mk_exact.specs.Market.{Market as FileMarket};
+ghost use Rattle.mk_market.specs.Trading.{IsAt};
 ghost use Rattle.mk_journal.specs.Opening.{contents};
 ghost use Rattle.mk_durable.specs.Recovery.{AreTakenBack, unquoted};
 ghost use Rattle.mk_durable.specs.Resuming.{fault_at, IsRecordFault};
+ghost use Rattle.mk_durable.specs.Suiting.{SuitsAll};
 
 use crate::fault::RecordFault;
 use crate::record::take_back;
@@ -30,13 +33,16 @@ pub fn restore_all<P: Engine<SumProd>, A: Engine<MinProd>>(
     market: &mut Market<P, A>,
     records: &[Vec<u8>],
 ) -> Result<(), RecordFault>
-    requires { market.old.standing ≡ unquoted (market.old.standing).history }
-    ensures market { market.new.market ≡ market.old.market }
+    requires prices { SuitsAll P.suits }
+    requires assets { SuitsAll A.suits }
+    requires quotes { market.old.standing ≡ unquoted (market.old.standing).history }
+    ensures market { (start : FileMarket) → IsAt start market.old → IsAt start market.new }
     ensures quotes { market.new.standing ≡ unquoted (market.new.standing).history }
-    ensures taken { OnOk result (AreTakenBack market.old.market (market.old.standing).history
+    ensures taken { (start : FileMarket) → IsAt start market.old →
+        OnOk result (AreTakenBack start (market.old.standing).history
         (contents records.now) (market.new.standing).history) }
-    ensures fault { IfErr result (IsRecordFault market.old.market
-        (market.old.standing).history (contents records.now)) }
+    ensures fault { (start : FileMarket) → IsAt start market.old →
+        IfErr result (IsRecordFault start (market.old.standing).history (contents records.now)) }
 {
     let mut words = Words::default();
     for (i, record) in records.iter().enumerate() {

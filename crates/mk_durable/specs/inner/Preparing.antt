@@ -16,7 +16,7 @@ pub record IsPlace (bytes : List ℕ) (place : Place) : Type 0 where
   pub header : place.header.items ≡ begun bytes
   pub none_waits : place.group ≡ []
 
--- each image of a store is an honest file to a market
+-- each image of a store is an honest file to the market of a file
 abbrev pub AreHonestTo : Market → List ℕ → (List ℕ → Type 0) → Type 0
 AreHonestTo market file images = (c : List ℕ) → images c → IsHonest market file c
 

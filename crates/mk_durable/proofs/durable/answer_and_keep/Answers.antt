@@ -6,16 +6,27 @@ use Rattle.mk_journal.specs.Keepers.{IsHeld, IsReady}
 use Rattle.mk_journal.specs.Market.{IsFront}
 use Rattle.mk_journal.specs.Moments.{LeavesOnly}
 use Rattle.mk_market.specs.Trading.{IsAnswered}
-use Rattle.mk_durable.proofs.Numbers.{few_changes}
+use Rattle.mk_market.specs.Suited.{SuitsNext}
+use Rattle.mk_durable.proofs.Numbers.{few_changes, few_additions}
 use Rattle.mk_durable.proofs.Found.{as_told}
 use Rattle.mk_durable.proofs.Applied.{none_made, one_made, next_revision, held_still, left_still}
 use Rattle.mk_durable.proofs.durable.answer_and_keep.Goals as goal
 
+pub apply-reply-requires-clause-prices : goal.apply-reply-requires-clause-prices
+apply-reply-requires-clause-prices g c =
+    subst (SuitsNext g.P.Engine.suits c.args.market.now) (sym c.lend.ensures) c.requires.prices
+
+pub apply-reply-requires-clause-assets : goal.apply-reply-requires-clause-assets
+apply-reply-requires-clause-assets g c =
+    subst (SuitsNext g.A.Engine.suits c.args.market.now) (sym c.lend.ensures) c.requires.assets
+
 pub keep_change-requires-clause-ready : goal.keep_change-requires-clause-ready
 keep_change-requires-clause-ready g c =
     let few = few_changes c.args.market.now.market c.args.market.now.standing.history
-    c.requires.is_market c.history-before.ensures.safe in
-    (revision c.args.market.now.standing.history, omega (arith, few), c.requires.ready)
+    c.history-before.ensures.safe in
+    let added = few_additions c.args.market.now.market c.args.market.now.standing.history
+    c.history-before.ensures.safe in
+    (revision c.args.market.now.standing.history, omega (arith, few, added), c.requires.ready)
 
 pub returns-then-history-before-clause-kept : goal.returns-then-history-before-clause-kept
 returns-then-history-before-clause-kept g c n bytes records named held =
@@ -43,7 +54,9 @@ returns-clause-ready g c =
     let answered = subst (λ (x : Command). IsAnswered c.args.market.now c.apply-reply.new.self x
     c.apply-reply.result) c.lend.ensures c.apply-reply.ensures in
     let few = few_changes c.args.market.now.market c.args.market.now.standing.history
-    c.requires.is_market c.history-before.ensures.safe in
+    c.history-before.ensures.safe in
+    let added = few_additions c.args.market.now.market c.args.market.now.standing.history
+    c.history-before.ensures.safe in
     let next = next_revision c.args.market.now c.apply-reply.new.self c.args.command.now
     c.apply-reply.result answered
     (λ same. c.if-history-before.false
@@ -53,7 +66,7 @@ returns-clause-ready g c =
     (g.K.Disk.file c.keep_change.new.disk (g.K.Disk.open_name c.keep_change.new.disk))
     c.keep_change.new.store count) (sym next)
     (c.in_ok-keep_change.ensures.ready (revision c.args.market.now.standing.history)
-    (omega (arith, few)) c.requires.ready)
+    (omega (arith, few, added)) c.requires.ready)
 
 pub returns-clause-kept : goal.returns-clause-kept
 returns-clause-kept g c n bytes records named held =
@@ -104,3 +117,12 @@ returns-in_err-keep_change-clause-kept g c n bytes records named held =
             (c.keep_change.ensures.any_moment n bytes records named held),
       );
     })
+
+pub returns-then-history-before-clause-is_market : goal.returns-then-history-before-clause-is_market
+returns-then-history-before-clause-is_market g c = c.history.ensures.safe.legal
+
+pub returns-in_err-keep_change-clause-is_market : goal.returns-in_err-keep_change-clause-is_market
+returns-in_err-keep_change-clause-is_market g c = c.history.ensures.safe.legal
+
+pub returns-clause-is_market : goal.returns-clause-is_market
+returns-clause-is_market g c = c.history.ensures.safe.legal

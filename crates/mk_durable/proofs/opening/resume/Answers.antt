@@ -3,13 +3,13 @@ use Rattle.std.proofs.Common.{ap, subst, ◌∙◌, arith}
 use Rattle.std.proofs.lemmas.List.{length-map}
 use Rattle.std.proofs.lemmas.List.Elements.{All-nil}
 use Rattle.std.proofs.lemmas.Result.{err_from_is_err_and}
-use Rattle.mk_rules.specs.Standings.{IsMarket}
 use Rattle.mk_rules.specs.Transcript.{Standing}
 use Rattle.mk_journal.specs.Opening.{contents}
 use Rattle.mk_journal.specs.Store.{IsLength}
 use Rattle.mk_journal.specs.Keepers.{StoreOf, IsReady}
 use Rattle.mk_durable.specs.Resuming.{IsResumed}
-use Rattle.mk_durable.proofs.Numbers.{few_changes}
+use Rattle.mk_session.proofs.Present.{at_first}
+use Rattle.mk_durable.proofs.Numbers.{few_changes, few_additions}
 use Rattle.mk_durable.proofs.Found.{has_records, records_refused, from_opening}
 use Rattle.mk_durable.proofs.Found.{fault_from_opening, as_many, as_told}
 use Rattle.mk_durable.proofs.opening.resume.Goals as goal
@@ -19,19 +19,17 @@ overflow_add-result g c =
     let size : length c.history.result.now ≡ length c.restore_all.new.market.standing.history =
     as_told c.history.result.now _ c.history.ensures.same in
     let few = few_changes c.restore_all.new.market.market
-    c.restore_all.new.market.standing.history
-    (subst IsMarket (sym c.restore_all.ensures.market) c.requires.is_market)
-    c.history.ensures.safe in
-    omega (arith, few, size)
+    c.restore_all.new.market.standing.history c.history.ensures.safe in
+    let added = few_additions c.restore_all.new.market.market
+    c.restore_all.new.market.standing.history c.history.ensures.safe in
+    omega (arith, few, added, size)
 
 pub returns-in-Gate-clause-few : goal.returns-in-Gate-clause-few
 returns-in-Gate-clause-few g c =
     let size : length c.history.result.now ≡ length c.restore_all.new.market.standing.history =
     as_told c.history.result.now _ c.history.ensures.same in
     let few = few_changes c.restore_all.new.market.market
-    c.restore_all.new.market.standing.history
-    (subst IsMarket (sym c.restore_all.ensures.market) c.requires.is_market)
-    c.history.ensures.safe in
+    c.restore_all.new.market.standing.history c.history.ensures.safe in
     omega (arith, few, size)
 
 pub returns-in_err-restore_all-clause-refused : goal.returns-in_err-restore_all-clause-refused
@@ -48,7 +46,8 @@ returns-in_err-restore_all-clause-refused g c n bytes f named is told =
     (fault_from_opening market c.args.market.now.standing.history
     found.records.items c.deref.result.now c.in_err-restore_all.field-0.0
     (ap (λ (s : Standing). s.history) c.requires.opening) c.deref.ensures.value
-    c.in_err-restore_all.ensures.fault))
+    (c.in_err-restore_all.ensures.fault market
+    (at_first c.args.market.now c.requires.opening))))
 
 pub returns-in-Gate-clause-resumed : goal.returns-in-Gate-clause-resumed
 returns-in-Gate-clause-resumed g c n bytes f named is told =
@@ -60,7 +59,7 @@ returns-in-Gate-clause-resumed g c n bytes f named is told =
     let taken = from_opening market c.args.market.now.standing.history now
     found.records.items c.deref.result.now
     (ap (λ (s : Standing). s.history) c.requires.opening) c.deref.ensures.value
-    c.in_ok-restore_all.ensures.taken in
+    (c.in_ok-restore_all.ensures.taken market (at_first c.args.market.now c.requires.opening)) in
     let number : length c.history.result.now ≡ length (contents found.records.items) =
     size ∙ as_many market now found.records.items taken
     ∙ sym (length-map found.records.items (λ (v : _). v.items)) in
@@ -90,7 +89,7 @@ returns-in-Gate-clause-ready g c =
     let taken = from_opening market c.args.market.now.standing.history now
     found.records.items c.deref.result.now
     (ap (λ (s : Standing). s.history) c.requires.opening) c.deref.ensures.value
-    c.in_ok-restore_all.ensures.taken in
+    (c.in_ok-restore_all.ensures.taken market (at_first c.args.market.now c.requires.opening)) in
     let number : length c.history.result.now ≡ length found.records.items =
     size ∙ as_many market now found.records.items taken in
     let near = rw c.in-Gate.is at c.in_ok-found.ensures.near in
@@ -114,7 +113,7 @@ returns-in-Malformed-clause-refused g c n bytes f named is told =
     let taken = from_opening market c.args.market.now.standing.history now
     found.records.items c.deref.result.now
     (ap (λ (s : Standing). s.history) c.requires.opening) c.deref.ensures.value
-    c.in_ok-restore_all.ensures.taken in
+    (c.in_ok-restore_all.ensures.taken market (at_first c.args.market.now c.requires.opening)) in
     let number : length c.history.result.now ≡ length (contents found.records.items) =
     size ∙ as_many market now found.records.items taken
     ∙ sym (length-map found.records.items (λ (v : _). v.items)) in
@@ -149,3 +148,26 @@ returns-in-Malformed-clause-images g c n bytes f image named is told left =
     let moments = c.open_store.ensures.any_moment n bytes f named is told in
     moments.each image (g.met.K.Disk.counts_now c.open_store.new.disk n
     (g.K.Disk.moment c.args.disk.now) image moments.later left)
+
+pub returns-in_err-found-clause-market : goal.returns-in_err-found-clause-market
+returns-in_err-found-clause-market g c = at_first c.args.market.now c.requires.opening
+
+pub returns-in_err-restore_all-clause-market : goal.returns-in_err-restore_all-clause-market
+returns-in_err-restore_all-clause-market g c =
+    c.restore_all.ensures.market c.args.market.now.market
+    (at_first c.args.market.now c.requires.opening)
+
+pub returns-in-Gate-clause-market : goal.returns-in-Gate-clause-market
+returns-in-Gate-clause-market g c =
+    c.restore_all.ensures.market c.args.market.now.market
+    (at_first c.args.market.now c.requires.opening)
+
+pub returns-in-Malformed-clause-market : goal.returns-in-Malformed-clause-market
+returns-in-Malformed-clause-market g c =
+    c.restore_all.ensures.market c.args.market.now.market
+    (at_first c.args.market.now c.requires.opening)
+
+pub returns-in-Gate-clause-few_added : goal.returns-in-Gate-clause-few_added
+returns-in-Gate-clause-few_added g c =
+    few_additions c.restore_all.new.market.market c.restore_all.new.market.standing.history
+    c.history.ensures.safe

@@ -1,11 +1,16 @@
-use Rattle.std.proofs.Common.{Ok, sym, ap, subst}
+use Rattle.std.proofs.Common.{Ok, inl, refl, sym, ap, subst}
 use Rattle.mk_exact.specs.Market.{Market}
 use Rattle.mk_market.specs.Trading.{Trading}
 use Rattle.mk_journal.specs.Moments.{LeavesOnly}
+use Rattle.mk_journal.specs.inner.MomentLaws.{started}
 use Rattle.mk_durable.specs.Recovery.{IsHonest}
 use Rattle.mk_durable.specs.KeepOutcome.{OpenedKeep, KeepsChanges, GivesSound}
 use Rattle.mk_durable.specs.inner.Preparing.{AreHonestTo}
 use Rattle.mk_durable.proofs.served.keep_file.Goals as goal
+
+pub returns-in-Err-clause-kept : goal.returns-in-Err-clause-kept
+returns-in-Err-clause-kept g c = λ n bytes stored all named place told_all told_file honest.
+    inl (refl, started (λ d left. inl (g.met.K.Disk.only_now c.args.disk.now n d left)))
 
 pub returns-in-Ok-clause-outcome : goal.returns-in-Ok-clause-outcome
 returns-in-Ok-clause-outcome g c = λ n bytes stored all named place told_all told_file sound.

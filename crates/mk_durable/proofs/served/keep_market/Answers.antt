@@ -1,6 +1,4 @@
 use Rattle.std.proofs.Common.{ℕ, List, length, inl, inr, sym, ap, subst, ◌∙◌, arith}
-use Rattle.mk_exact.specs.Market.{Market}
-use Rattle.mk_rules.specs.Standings.{IsMarket}
 use Rattle.mk_journal.specs.inner.MomentLaws.{weaken}
 use Rattle.mk_journal.proofs.Heads.{length-begun}
 use Rattle.mk_session.specs.Outcome.{HasKeepCauses}
@@ -69,16 +67,13 @@ returns-clause-outcome g c = λ n bytes stored all named place told_all told_fil
     let market = c.args.market.now.market in
     let it = c.in-Ok.ensures.resumed n bytes stored named (c.deref.ensures.value ∙ place.header)
     told_file in
-    carried_on market now.market now.standing c.in-Ok.resumed.count c.resume.ensures.market
+    carried_on market now.standing c.in-Ok.resumed.count
     c.resume.ensures.quotes c.in-Ok.ensures.count bytes stored all it.records it.gives
     (g.S.Sink.written c.args.out.now) (g.S.Sink.written c.serve_from.new.out)
     c.serve_from.result (g.I.Inputs.commands c.serve_from.new.inputs)
-    (c.serve_from.ensures.served all told_all
-    (can_go_on now.market now.standing
-    (subst (λ (m : Market). IsMarket m) (sym c.resume.ensures.market) c.requires.is_market)
-    c.resume.ensures.quotes
-    (rw c.resume.ensures.market (sound it.records now.standing.history it.gives))
-    c.history.ensures.safe))
+    (c.serve_from.ensures.served market all c.resume.ensures.market told_all
+    (can_go_on market now c.requires.is_market c.resume.ensures.market c.resume.ensures.quotes
+    (sound it.records now.standing.history it.gives) c.history.ensures.safe))
 
 pub returns-clause-kept : goal.returns-clause-kept
 returns-clause-kept g c = λ n bytes stored all named place told_all told_file honest.
@@ -89,7 +84,7 @@ returns-clause-kept g c = λ n bytes stored all named place told_all told_file h
     let market = c.args.market.now.market in
     let it = c.in-Ok.ensures.resumed n bytes stored named header told_file in
     let own = honest stored is_image in
-    kept_on market now.market now.standing c.in-Ok.resumed.count c.resume.ensures.market
+    kept_on market now.standing c.in-Ok.resumed.count
     c.resume.ensures.quotes c.in-Ok.ensures.count bytes stored all it.records it.gives
     (g.S.Sink.written c.args.out.now) (g.S.Sink.written c.serve_from.new.out)
     images (g.K.Disk.may_leave c.serve_from.new.disk n)
@@ -99,12 +94,9 @@ returns-clause-kept g c = λ n bytes stored all named place told_all told_file h
     (g.K.Disk.left_since c.serve_from.new.disk n)
     (weaken (λ d is. resumes_as_before bytes stored images images d is_image (λ e was. was) is)
     (c.resume.ensures.any_moment n bytes stored named header told_file))
-    (c.serve_from.ensures.left all n bytes it.records told_all
-    (can_go_on now.market now.standing
-    (subst (λ (m : Market). IsMarket m) (sym c.resume.ensures.market) c.requires.is_market)
-    c.resume.ensures.quotes
-    (rw c.resume.ensures.market
-    (stands_given market bytes stored it.records now.standing.history own it.gives))
+    (c.serve_from.ensures.left market all n bytes it.records c.resume.ensures.market told_all
+    (can_go_on market now c.requires.is_market c.resume.ensures.market c.resume.ensures.quotes
+    (stands_given market bytes stored it.records now.standing.history own it.gives)
     c.history.ensures.safe)
     (named ∙ sym c.resume.ensures.stays_name, it.held))
 
@@ -120,12 +112,9 @@ returns-clause-complete g c = λ n bytes stored all named place told_all told_fi
     (g.K.Disk.faults c.args.disk.now) (g.K.Disk.faults c.serve_from.new.disk)
     (g.I.Inputs.faults c.args.inputs.now) (g.I.Inputs.faults c.serve_from.new.inputs)
     (g.S.Sink.faults c.args.out.now) (g.S.Sink.faults c.serve_from.new.out)
-    (c.serve_from.ensures.served all told_all
-    (can_go_on now.market now.standing
-    (subst (λ (m : Market). IsMarket m) (sym c.resume.ensures.market) c.requires.is_market)
-    c.resume.ensures.quotes
-    (rw c.resume.ensures.market
-    (stands_given market bytes stored it.records now.standing.history honest it.gives))
+    (c.serve_from.ensures.served market all c.resume.ensures.market told_all
+    (can_go_on market now c.requires.is_market c.resume.ensures.market c.resume.ensures.quotes
+    (stands_given market bytes stored it.records now.standing.history honest it.gives)
     c.history.ensures.safe))
     c.serve_from.ensures.ends within
     (subst (λ (d : ℕ). HasKeepCauses c.serve_from.result d (g.K.Disk.faults c.serve_from.new.disk)

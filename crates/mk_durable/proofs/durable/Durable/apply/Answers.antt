@@ -1,10 +1,21 @@
-use Rattle.std.proofs.Common.{◌≡◌, [], ◌++◌, length, subst}
+use Rattle.std.proofs.Common.{◌≡◌, [], ◌++◌, length, sym, subst}
 use Rattle.std.specs.Prelude.{⊤}
 use Rattle.mk_journal.specs.Keepers.{IsHeld}
 use Rattle.mk_journal.specs.Market.{IsFront}
 use Rattle.mk_journal.specs.Moments.{LeavesOnly}
+use Rattle.mk_market.specs.Suited.{SuitsNext}
 use Rattle.mk_durable.specs.Applying.{DurableOf, IsApplied, records_made}
 use Rattle.mk_durable.proofs.durable.Durable.apply.Goals as goal
+
+pub answer_and_keep-requires-clause-prices : goal.answer_and_keep-requires-clause-prices
+answer_and_keep-requires-clause-prices g c =
+    subst (λ (d : DurableOf). SuitsNext g.P.Engine.suits d.trading c.args.command.now)
+    (sym c.self.view_is) c.requires.prices
+
+pub answer_and_keep-requires-clause-assets : goal.answer_and_keep-requires-clause-assets
+answer_and_keep-requires-clause-assets g c =
+    subst (λ (d : DurableOf). SuitsNext g.A.Engine.suits d.trading c.args.command.now)
+    (sym c.self.view_is) c.requires.assets
 
 pub returns-in-Ok-clause-kept : goal.returns-in-Ok-clause-kept
 returns-in-Ok-clause-kept g c n bytes records named opened held =

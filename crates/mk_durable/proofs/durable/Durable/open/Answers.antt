@@ -3,7 +3,7 @@ use Rattle.std.proofs.lemmas.Result.{err_from_is_err_and}
 use Rattle.mk_exact.specs.Market.{Market}
 use Rattle.mk_journal.specs.Store.{header}
 use Rattle.mk_journal.proofs.Spelling.{length-header}
-use Rattle.mk_market.specs.Trading.{Trading}
+use Rattle.mk_market.specs.Trading.{Trading, IsAt}
 use Rattle.mk_durable.specs.Resuming.{IsRefused, IsResumed}
 use Rattle.mk_durable.proofs.durable.Durable.open.Goals as goal
 
@@ -60,3 +60,8 @@ pub returns-clause-any_moment : goal.returns-clause-any_moment
 returns-clause-any_moment g c n f named told =
     c.resume.ensures.any_moment n c.args.bytes.now f named
     (c.deref.ensures.value ∙ c.in_ok-header.ensures) told
+
+pub returns-clause-market : goal.returns-clause-market
+returns-clause-market g c =
+    subst (λ (m : Market). IsAt m c.resume.new.market)
+    (ap (λ (t : Trading). t.market) c.in_ok-market.ensures.opened) c.resume.ensures.market
