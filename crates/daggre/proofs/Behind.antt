@@ -8,7 +8,7 @@ use Rattle.mk_io.specs.declared.status.Status.TheVariants.{WriteFault, Memory, T
 use Rattle.mk_io.specs.declared.status.Status.TheVariants.{DiskFault, StoreRefused}
 use Rattle.mk_io.specs.Outside.{append_known, Rose}
 use Rattle.mk_io.proofs.Told.{append_known_twice}
-use Rattle.mk_exact.specs.Market.{Market}
+use Rattle.mk_exact.specs.Market.{Market, present}
 use Rattle.mk_exact.specs.History.{Entry}
 use Rattle.mk_file.specs.declared.fault.FileFault.{FileFault}
 use Rattle.mk_rules.specs.Transcript.{Standing}
@@ -62,19 +62,20 @@ stops_still status ask given all source before written stops (inr opened) = inr 
 -- the last line behind a whole run
 answered : (market : Market) (after : Standing) (ask : Ask) (all rest transcript last : List ℕ)
     → IsWholeTo (from_opening market) after all rest transcript
-    → IsLastLine market after.history ask last
+    → IsLastLine (present market after.history) after.history ask last
     → IsAnswered market ask all rest (transcript ++ last)
 answered market after ask all rest transcript last run answers = record {
   transcript = transcript;
   run = run.whole;
   last = last;
-  answers = subst (λ (s : Standing). IsLastLine market s.history ask last) (sym run.stands) answers;
+  answers = subst (λ (s : Standing). IsLastLine (present market s.history) s.history ask last)
+      (sym run.stands) answers;
   printed = refl;
 }
 
 serves_behind : (status : Status) (market : Market) (after : Standing) (ask : Ask)
     (all rest transcript bytes : List ℕ) → IsWholeTo (from_opening market) after all rest transcript
-    → SaysLast status market after.history ask bytes
+    → SaysLast status (present market after.history) after.history ask bytes
     → ServesAsk status ask market all rest (transcript ++ bytes)
 serves_behind Done market after ask all rest transcript bytes run says =
     answered market after ask all rest transcript bytes run says
@@ -104,6 +105,8 @@ pub opened_behind : (status : Status) (back : Trading) (ask : Ask) (given : Resu
     → OpenedAsk status ask given all source before written
 opened_behind status back ask given all source before middle written handed says =
     let transcript = handed.run.output.bytes in
+    let here = subst (λ (m : Market). SaysLast status m back.standing.history ask says.bytes)
+    handed.at says.holds in
     record {
       rest = handed.run.rest;
       told = handed.run.told;
@@ -113,8 +116,8 @@ opened_behind status back ask given all source before middle written handed says
             handed.run.output.added ∙ append_known_twice before transcript says.bytes;
         holds = subst (λ (g : Result Market FileFault). EndsAsk status ask g all handed.run.rest
             (transcript ++ says.bytes)) (sym handed.accepted)
-            (serves_behind status back.market back.standing ask all handed.run.rest transcript
-            says.bytes handed.run.output.holds says.holds);
+            (serves_behind status handed.market back.standing ask all handed.run.rest transcript
+            says.bytes handed.run.output.holds here);
       };
     }
 

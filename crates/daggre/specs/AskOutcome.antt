@@ -4,7 +4,7 @@ use Rattle.mk_io.specs.declared.status.Status.{Status}
 use Rattle.mk_io.specs.declared.status.Status.TheVariants.{Done, Usage, MarketRefused, ReadFault}
 use Rattle.mk_io.specs.declared.status.Status.TheVariants.{WriteFault, Memory, TooMany}
 use Rattle.mk_io.specs.declared.status.Status.TheVariants.{DiskFault, StoreRefused}
-use Rattle.mk_exact.specs.Market.{Market}
+use Rattle.mk_exact.specs.Market.{Market, present}
 use Rattle.mk_file.specs.declared.fault.FileFault.{FileFault}
 use Rattle.mk_file.specs.File.{file_of}
 use Rattle.mk_session.specs.Outcome.{Adds, IsFrontOf, IsWhole, IsStopped, IsOverrun, IsBroken}
@@ -14,12 +14,13 @@ use Rattle.daggre.specs.declared.ask.Ask.{Ask}
 use Rattle.daggre.specs.LastLine.{IsLastLine}
 
 -- all commands were read to their end, and answered; behind the transcript stands the last line,
--- about the history that this very transcript leaves
+-- about the history that this very transcript leaves, in the market with what that added
 pub record IsAnswered (market : Market) (ask : Ask) (all rest output : List ℕ) : Type 0 where
   pub transcript : List ℕ
   pub run : IsWhole (from_opening market) all rest transcript
   pub last : List ℕ
-  pub answers : IsLastLine market run.transcript.after.history ask last
+  pub answers : IsLastLine (present market run.transcript.after.history)
+      run.transcript.after.history ask last
   pub printed : output ≡ transcript ++ last
 
 -- writing failed: a front of such an output was written

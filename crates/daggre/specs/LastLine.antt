@@ -7,7 +7,7 @@ use Rattle.mk_net.specs.declared.words.PairText.{PairText}
 use Rattle.mk_net.specs.Network.{Variable}
 use Rattle.mk_net.specs.Named.{pair_named}
 use Rattle.mk_net.specs.Texts.{same_text}
-use Rattle.mk_exact.specs.Market.{Market, network_of}
+use Rattle.mk_exact.specs.Market.{Market}
 use Rattle.mk_exact.specs.History.{Entry, users}
 use Rattle.mk_text.specs.Joined.{◌&◌, items_text}
 use Rattle.mk_text.specs.Numbers.{price_text, prices_text}
@@ -71,7 +71,7 @@ expect_line low high = as_line
 pub record SaysExpectation (market : Market) (H : List Entry) (u : ℕ) (line : List ℕ) : Type 0 where
   pub low : ℤ
   pub high : ℤ
-  pub right : CoversExpectation (network_of market H) H market.points_per_bit u low high
+  pub right : CoversExpectation market.network H market.points_per_bit u low high
   pub printed : line ≡ expect_line low high
 
 -- the expectation of the user of a name, who is refused where nobody of this name has joined
@@ -92,15 +92,15 @@ first_unknown network pairs = find (λ pair. is_none (pair_named network pair)) 
 -- a line that answers what is asked in known pairs
 abbrev pub Answers : Market → List Entry → Ask → List ℕ → Type 0
 Answers market H (asks.Chance want given) line =
-    SaysChance (network_of market H) H (known_pairs (network_of market H) want)
-    (known_pairs (network_of market H) given) line
+    SaysChance market.network H (known_pairs market.network want)
+    (known_pairs market.network given) line
 Answers market H (asks.Best given) line =
-    SaysBest (network_of market H) H (known_pairs (network_of market H) given) line
+    SaysBest market.network H (known_pairs market.network given) line
 Answers market H (asks.Expect user) line = SaysOfUser market H user line
 
 -- the last line: it refuses the first unknown pair, or answers
 abbrev pub IsLastLine : Market → List Entry → Ask → List ℕ → Type 0
 IsLastLine market H ask line =
-    MatchOption (first_unknown (network_of market H) (pairs_in ask))
+    MatchOption (first_unknown market.network (pairs_in ask))
     (Answers market H ask line)
     (λ pair. line ≡ reply_line (Refused (Unknown pair)))
