@@ -23,7 +23,7 @@ MARKET = re.compile(r"[!-~]{1,64}")
 OPERATOR = "operator"
 OF_A_USER = {"user", "deposit", "withdraw", "limits", "edit", "bounds", "spread", "position", "worst"}
 OF_ALL = {"price", "prices", "status", "bound"}
-OF_THE_OPERATOR = {"resolve", "settle"}
+OF_THE_OPERATOR = {"resolve", "settle", "add"}
 # What uses up the limits of the whole market: trades, and transfers.
 THAT_COUNT = {"deposit", "withdraw", "edit", "spread"}
 LONGEST = 1024

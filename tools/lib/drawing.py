@@ -167,6 +167,8 @@ def price_note(data):
              "draw.", "●  a trade of this question    ○  a trade of it under a condition    ◆  the answer that came    ×  one that did not"]
     if 0 < len(data["resolutions"]) <= FEW_RESOLUTIONS:
         notes.append("Dotted lines: a question is resolved, this one or another.")
+    if any(points and points[0][0] > 0 for series in data["prices"].values() for points in series["prices"].values()):
+        notes.append("A question that was added while the market ran has prices from then on.")
     if any(len(series["trades"]) > MANY_TRADES for series in data["prices"].values()):
         notes.append("Where a question has more than a thousand trades they are not marked.")
     if "sampled" in data:
@@ -235,12 +237,21 @@ def is_near(bound, high, span):
     return span <= 1 or bound <= 6 * max(high, span)
 
 
-def show_bound(axes, bound, high, span):
-    """The file's bound as a line, or as words at the top where it is far above."""
+def show_bound(axes, bound, high, span, bounds):
+    """The file's bound as a line, with a step for each question that was added; or as words at the top where it is far above."""
     if is_near(bound, high, span):
-        (line,) = axes.plot(axes.get_xlim(), [bound, bound], color="black", linewidth=1.4, linestyle=DASHES[2])
+        places = [bounds[0]]
+        for revision, points in bounds[1:]:
+            places += [[revision, places[-1][1]], [revision, points]]
+        places.append([axes.get_xlim()[1], bound])
+        (line,) = axes.plot([place for place, _ in places], [points for _, points in places], color="black", linewidth=1.4, linestyle=DASHES[2])
         mark_line(line, "bound")
-        axes.annotate(f"the file's bound: {bound:,} points", (0, bound), (4, 4), textcoords="offset points", fontsize=9)
+        axes.annotate(f"the file's bound: {bounds[0][1]:,} points", (0, bounds[0][1]), (4, 4), textcoords="offset points", fontsize=9)
+        for revision, points in bounds[1:]:
+            axes.annotate(f"{points:,}", (revision, points), (4, 4), textcoords="offset points", fontsize=9)
+    elif len(bounds) > 1:
+        axes.annotate(f"↑ the bound: {bound:,} points behind what was added, {bounds[0][1]:,} of the file, far above this picture", (0.01, 0.985),
+                      xycoords="axes fraction", fontsize=9, va="top")
     else:
         axes.annotate(f"↑ the file's bound: {bound:,} points, far above this picture", (0.01, 0.985), xycoords="axes fraction", fontsize=9, va="top")
 
@@ -277,7 +288,9 @@ def draw_operator(data):
     high, low = max(point[1] for point in most), min(point[1] for point in least)
     span = max(high - low, 1)
     set_axes(axes, 0, 1, 1, last, "points lost")
-    top = max(high, series["bound"]) if is_near(series["bound"], high, span) else high + 0.3 * span
+    bounds = series.get("bounds", [[0, series["bound"]]])
+    bound = bounds[-1][1]
+    top = max(high, bound) if is_near(bound, high, span) else high + 0.3 * span
     axes.set_ylim(low - 0.1 * (top - low), top + 0.1 * (top - low))
     end = right_end(last)
     upper, lower = ([*(point[1] for point in points), points[-1][1]] for points in (most, least))
@@ -289,7 +302,7 @@ def draw_operator(data):
     lay_out(figure, f"{data['market']}: what the operator can lose", note, right=1.3)
     if is_few:
         figure.subplots_adjust(top=1 - 1.25 / 5.0)
-    show_bound(axes, series["bound"], high, span)
+    show_bound(axes, bound, high, span, bounds)
     show_resolutions(axes, series["resolutions"])
     name_lines(axes, most, least)
     if abs(most[-1][1] - least[-1][1]) < 0.5:

@@ -8,6 +8,7 @@ PAIR = rf"{N}={N}"
 CONDITION = rf"(?: \| (?P<condition>{PAIR}(?:, {PAIR}){{0,7}}))?"
 QUESTION = rf"(?P<name>{N})=(?P<value>{N}){CONDITION}"
 ALL_OF = rf"(?P<name>{N}){CONDITION}"
+ROW = rf"{NUMBER}(?: {NUMBER}){{0,15}}"
 AT = rf"(?: at (?P<at>{NUMBER}))?"
 COMMANDS = {kind: re.compile(form) for kind, form in {
     "user": rf"user (?P<user>{N})",
@@ -25,8 +26,10 @@ COMMANDS = {kind: re.compile(form) for kind, form in {
     "resolve": rf"resolve (?P<name>{N})=(?P<value>{N})",
     "settle": r"settle",
     "bound": r"bound",
+    "add": (rf"add (?P<name>{N})=(?P<values>{N}(?:,{N}){{1,15}})(?: \| (?P<parents>{N}(?:,{N}){{0,7}}))? : (?P<rows>{ROW}(?:, {ROW}){{0,63}})"
+            rf" in (?P<clique>{N}(?:,{N}){{0,12}}) to (?P<link>{NUMBER})"),
 }.items()}
-CHANGES = ("user", "deposit", "withdraw", "edit", "spread", "resolve", "settle")
+CHANGES = ("user", "deposit", "withdraw", "edit", "spread", "resolve", "settle", "add")
 INTERVAL = r"[0-9]+\.\.[0-9]+"
 PRICES = r"[01]\.[0-9]{10}\.\.[01]\.[0-9]{10}"
 SURE = rf"(?:none|{INTERVAL})"
@@ -47,6 +50,7 @@ REPLIES = {kind: re.compile(form) for kind, form in {
     "resolve": r"resolve \S+ at (?P<at>[0-9]+)",
     "settle": rf"settle at (?P<at>[0-9]+)(?P<payments>(?:, {N} {INTERVAL} paid [0-9]+)*)",
     "bound": rf"bound (?P<ends>{INTERVAL})",
+    "add": rf"add (?P<name>{N}) at (?P<at>[0-9]+)",
 }.items()}
 # What `chance`, `best` and `expect` write behind the last reply of a run.
 LAST_LINE = re.compile(rf"chance {PRICES}|best {PRICES} at most [0-9]+\.[0-9]{{10}}(?: {PAIR})+|expect -?[0-9]+\.\.-?[0-9]+"
@@ -59,6 +63,16 @@ class NoTranscript(Exception):
 
 
 @dataclass
+class Addition:
+    """What an `add` says of its question beside the name. The number of the clique that its own is linked to counts from 1."""
+    values: list
+    parents: list
+    rows: list
+    clique: list
+    link: int
+
+
+@dataclass
 class Command:
     kind: str
     user: str | None = None
@@ -67,12 +81,19 @@ class Command:
     condition: list = field(default_factory=list)
     numbers: list = field(default_factory=list)
     at: int | None = None
+    addition: Addition | None = None
 
     def question(self):
         return "" if self.name is None else self.name if self.value is None else f"{self.name}={self.value}"
 
     def given(self):
         return ", ".join(f"{name}={value}" for name, value in self.condition)
+
+
+def read_addition(parts):
+    names = {key: parts[key].split(",") if parts[key] else [] for key in ("values", "parents", "clique")}
+    rows = [[int(word) for word in row.split(" ")] for row in parts["rows"].split(", ")]
+    return Addition(names["values"], names["parents"], rows, names["clique"], int(parts["link"]))
 
 
 def read_command(line):
@@ -84,7 +105,8 @@ def read_command(line):
     parts = found.groupdict()
     condition = [tuple(pair.split("=")) for pair in parts["condition"].split(", ")] if parts.get("condition") else []
     numbers = [int(word) for word in parts["numbers"].split(" ")] if parts.get("numbers") else []
-    return Command(kind, parts.get("user"), parts.get("name"), parts.get("value"), condition, numbers, int(parts["at"]) if parts.get("at") else None)
+    return Command(kind, parts.get("user"), parts.get("name"), parts.get("value"), condition, numbers, int(parts["at"]) if parts.get("at") else None,
+                   read_addition(parts) if kind == "add" else None)
 
 
 @dataclass
@@ -114,6 +136,8 @@ def read_entry(line, text):
         return None
     repeated = command.kind in ("user", "deposit", "withdraw", "resolve")
     if repeated and text.rsplit(" at ", 1)[0] != line.removesuffix("\r"):
+        return None
+    if command.kind == "add" and found["name"] != command.name:
         return None
     if command.kind == "spread" and len(found["ratios"].split(" ")) != len(command.numbers):
         return None

@@ -1,4 +1,5 @@
 """Market files as the tools beside the program read them. The first fault of a file is one sentence, with its line where that is known."""
+import copy
 import difflib
 import os
 import re
@@ -74,7 +75,7 @@ class Question:
 
 
 class Market:
-    """A market file that the program takes. `questions` are by name, in the order of the file."""
+    """A market file that the program takes. `questions` are by name, in the order of the file, those that were added last."""
 
     def __init__(self, path, text, document):
         self.path, self.document, self.places = path, document, Places(text)
@@ -82,6 +83,13 @@ class Market:
         self.points, self.max_trades = document["points_per_bit"], document["max_trades"]
         self.cliques, self.links, self.has_zeros = document["cliques"], document["links"], document.get("zeros", False)
         self.questions = {table["name"]: Question(table) for table in document["variable"]}
+
+    def grown(self, name, addition):
+        """The market with one question more, as an `add` gives it."""
+        market = copy.copy(self)
+        market.questions = {**self.questions, name: Question({"name": name, "values": addition.values, "parents": addition.parents, "rows": addition.rows})}
+        market.cliques, market.links = [*self.cliques, addition.clique], [*self.links, addition.link]
+        return market
 
     def values(self, name):
         return self.questions[name].values

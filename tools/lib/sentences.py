@@ -2,7 +2,7 @@
 import re
 
 from .lines import COMMANDS, NUMBER, N, read_command
-from .market_file import SYNTAX_OF_NAMES, meant
+from .market_file import MOST_CELLS, MOST_CELLS_TOGETHER, SYNTAX_OF_NAMES, meant
 
 FORMS = {
     "user": ("user U", "U joins, and owns nothing"),
@@ -20,6 +20,7 @@ FORMS = {
     "resolve": ("resolve V=v", "V has the answer v, for ever"),
     "settle": ("settle", "pays every user, once each question is resolved; nothing is taken behind it"),
     "bound": ("bound", "the most that the operator can lose, in points"),
+    "add": ("add V=v,w | P,.. : X X, .. in C,.. to K", "V is a question from now on; P are its parents, C the names of its group, which is linked to group K"),
 }
 # forms of a call that are no commands, with their words behind the market file
 CALLS = {"chance": "V=v .. given W=w ..", "best": "V=v ..", "expect": "U"}
@@ -65,7 +66,7 @@ def check_bytes(line):
         if letter == "\t":
             raise Wrong(place, "a tab; words are separated by one space")
         if not " " <= letter <= "~":
-            raise Wrong(place, "a byte that stands in no command; they have small letters, digits, _ and the signs = | , alone")
+            raise Wrong(place, "a byte that stands in no command; they have small letters, digits, _ and the signs = | , : alone")
     if line.startswith(" "):
         raise Wrong(0, "a space at the beginning")
     if line.endswith(" "):
@@ -129,14 +130,14 @@ def in_millionths(word):
 
 
 def check_number(word, place, what):
-    """A number of bits, a share, or a revision."""
+    """A number of bits, a share, a revision, or a group's."""
     if re.fullmatch(NUMBER, word):
         return
     if what == "share":
         parts = in_millionths(word.rstrip(","))
         if parts is not None and not re.fullmatch(r"\d{1,3},\d{3}", word):
             raise Wrong(place, f"shares are whole parts per million: {word.rstrip(',')} is {parts}")
-    if re.fullmatch(r"\d+,", word):
+    if what == "share" and re.fullmatch(r"\d+,", word):
         raise Wrong(place + len(word) - 1, "shares are separated by one space, without a comma")
     if re.fullmatch(r"\d[\d,_']*\d", word) and re.search(r"[,_']", word):
         raise Wrong(place, f"a number has digits alone: {re.sub('[^0-9]', '', word)}")
@@ -147,7 +148,7 @@ def check_number(word, place, what):
     if re.match(r"[+-]", word):
         raise Wrong(place, "a number has no sign")
     kinds = {"bits": "bits are whole: a number from 1 to 1000", "share": "a share is a whole number of parts per million, 1 to 999999",
-             "revision": "a revision is a whole number"}
+             "revision": "a revision is a whole number", "group": "a group is told by its number, counted from 1"}
     raise Wrong(place, f"{kinds[what]}; `{word}` is none")
 
 
@@ -275,13 +276,118 @@ def read_bits(words, market):
     words.take()
 
 
+# What is added.
+
+
+def check_marks(word, place, what):
+    """` | ` and ` : ` stand apart."""
+    for mark in "|:":
+        if word == mark:
+            raise Wrong(place, f"{what} missing in front of ` {mark} `")
+        if mark in word:
+            raise Wrong(place + word.index(mark), f"` {mark} ` has a space on each side")
+
+
+def check_list(word, place, what, most):
+    """Names with a comma between each two."""
+    names = word.split(",")
+    for number, name in enumerate(names, 1):
+        if not name and len(names) > 1:
+            raise Wrong(max(place - 1, 0), "the names of a list have a comma between them, and no space")
+        check_name(name, place, what)
+        if number > most:
+            raise Wrong(place, f"here are at most {most} names; this is one more")
+        place += len(name) + 1
+
+
+def read_list(words, what, most, missing):
+    if words.peek() is None:
+        raise Wrong(words.place(), f"{missing} missing")
+    place, word = words.place(), words.take()
+    check_marks(word, place, missing)
+    if "=" in word:
+        raise Wrong(place + word.index("="), "names of questions stand here, without their answers")
+    check_list(word, place, what, most)
+
+
+def read_added(words):
+    """V=v,w.."""
+    if words.peek() is None:
+        raise Wrong(words.place(), "the question is missing")
+    check_loose_equals(words)
+    place, word = words.place(), words.take()
+    check_marks(word, place, "the question is")
+    name, sign, answers = word.partition("=")
+    check_name(name, place, "a question")
+    place += len(name) + 1
+    if not sign:
+        raise Wrong(place - 1, f"its answers stand right behind it, as in {name}=yes,no")
+    if "=" in answers:
+        raise Wrong(place + answers.index("="), "there is one = between a question and its answers")
+    check_list(answers, place, "an answer", 16)
+    if "," not in answers:
+        raise Wrong(place + len(answers), "a question has 2 to 16 answers, with a comma between each two")
+
+
+def read_rows(words):
+    """Rows of shares, up to ` in `."""
+    count = width = 0
+    while words.peek() is not None and words.peek() != "in":
+        place, word = words.place(), words.take()
+        share = word.removesuffix(",")
+        if not share:
+            raise Wrong(place, "a comma stands right behind a row")
+        if share == "to":
+            raise Wrong(place, "` in ` and the names of the group are expected behind the rows")
+        if re.fullmatch(r"\d+,[\d,]*", share):
+            raise Wrong(place + share.index(","), "the shares of a row are separated by one space, and rows by a comma and a space")
+        check_number(share, place, "share")
+        width += 1
+        if count == 64 or width > 16:
+            raise Wrong(place, f"there are at most {'64 rows' if count == 64 else '16 shares in a row'}; here is one more")
+        if word.endswith(","):
+            count, width = count + 1, 0
+    if width == 0:
+        raise Wrong(words.place(), f"a row of shares is missing behind {'the comma' if count else ':'}")
+
+
+def read_place(words):
+    """The new group, and the number of the one that it is linked to."""
+    if words.peek() is None:
+        raise Wrong(words.place(), "` in ` and the names of the group are expected behind the rows")
+    words.take()
+    read_list(words, "a question", 13, "the names of the group are")
+    if words.peek() != "to":
+        raise Wrong(words.place(), "` to ` and the number of a group are expected behind the names of the new one")
+    words.take()
+    if words.peek() is None:
+        raise Wrong(words.place(), "the number of the group that the new one is linked to is missing")
+    check_number(words.peek(), words.place(), "group")
+    words.take()
+
+
+def read_addition(words):
+    read_added(words)
+    if words.peek() == "|":
+        words.take()
+        read_list(words, "a parent", 8, "the parents are")
+    if words.peek() != ":":
+        here, place = words.peek(), words.place()
+        if here is not None:
+            check_marks(here, place, "")
+        raise Wrong(place, "` : ` and the rows of shares are expected behind the question and its parents" + (f"; `{here}` stands there" if here else ""))
+    words.take()
+    read_rows(words)
+    read_place(words)
+
+
 def read_line(line, market):
     """Passes over a line, or raises where it goes wrong."""
     check_bytes(line)
     words = Words(line)
     kind = words.found[0][0]
     check_first(kind)
-    if kind not in ("price", "prices", "resolve", "settle", "bound", "status"):
+    if kind not in ("price", "prices", "resolve", "settle", "bound", "status", "add"):
         read_user(words, market)
     if kind in ("deposit", "withdraw"):
         read_bits(words, market)
@@ -293,6 +399,8 @@ def read_line(line, market):
         read_question(words, market, is_all=kind == "spread", stops=("to",))
         read_to(words)
         read_shares(words, market)
+    elif kind == "add":
+        read_addition(words)
     elif kind == "resolve":
         read_target(words, market, False, ())
         if words.peek() == "|":
@@ -324,7 +432,7 @@ def wide(line, market):
     names = [command.name, *(name for name, _ in command.condition)] if command else []
     held = "; ".join(groups_text(market, name) for name in names if name in market.questions)
     more = f". `daggre chance FILE {command.question()} given {command.given().replace(', ', ' ')}` tells it over the lines so far" if command and command.kind == "price" else ""
-    return f"no group of the file holds all questions that are named{': ' if held else ''}{held}{more}"
+    return f"no group holds all questions that are named{': ' if held else ''}{held}{more}"
 
 
 def unknown_pair(pair, market):
@@ -345,29 +453,71 @@ def full(count, line):
     return f"the market has taken {count:,} {what}, and takes no more"
 
 
+def not_running(name, line, market):
+    """Whether another group will do for a question that is added."""
+    command = read_command(line)
+    if command is None or command.addition is None:
+        return f"{name} is not in the group that the new one is to be linked to"
+    added = command.addition
+    told = f"{name} is not in group {added.link}, which the new one is to be linked to"
+    for names, what in (([it for it in added.clique if it != command.name], "all the other names"), (added.parents, "all the parents")):
+        homes = market.homes(names)
+        if homes:
+            return f"{told}; group {homes[0] + 1} holds {what}"
+    return f"{told}; no group holds all the parents, so the question would join two parts of the tree, which only a new market can"
+
+
+def row_count(count, line, market):
+    command = read_command(line)
+    lists = market.size(command.addition.parents) if command and command.addition else "another number of"
+    told = "there is 1 row" if count == "1" else f"there are {count} rows"
+    return f"{told}, and {lists} {'list' if lists == 1 else 'lists'} of the parents' answers, each of which has one"
+
+
+def in_range(number, line):
+    if line.startswith("add "):
+        return f"{number} is outside: shares of a row are 1 to 999,999, and in a market with zeros 0 to 1,000,000"
+    return f"{number} is outside: bits are 1 to 1,000, shares 1 to 999,999 (in a spread 0 for what cannot come)"
+
+
+def twice(name, line):
+    return f"{name} is named twice among the parents, or in the group" if line.startswith("add ") else f"{name} is named twice in the question"
+
+
 REFUSALS = {
     "long": lambda rest, line, market: "a line has at most 1,024 bytes",
     "settled": lambda rest, line, market: "the market is settled, and takes nothing more",
     "user": lambda rest, line, market: f"nobody called {rest} has joined; `user {rest}` lets {rest} join",
     "exists": lambda rest, line, market: f"{rest} has joined already",
     "users": lambda rest, line, market: f"{rest} users have joined, and the market takes no more",
+    "variables": lambda rest, line, market: f"there are {rest} questions, and a market takes no more",
+    "taken": lambda rest, line, market: f"there is a question {rest} already",
+    "value": lambda rest, line, market: f"the answer {rest} stands twice",
     "variable": lambda rest, line, market: f"there is no question {rest}{meant(rest, market.questions)}",
     "name": lambda rest, line, market: unknown_pair(rest, market),
-    "twice": lambda rest, line, market: f"{rest} is named twice in the question",
+    "twice": lambda rest, line, market: twice(rest, line),
+    "link": lambda rest, line, market: f"there is no group {rest}: groups are counted from 1, and the last is {len(market.cliques)}",
+    "cover": lambda rest, line, market: f"the group has to hold the question and all its parents, and {rest} is not in it",
+    "running": lambda rest, line, market: not_running(rest, line, market),
+    "rows": lambda rest, line, market: row_count(rest, line, market),
+    "width": lambda rest, line, market: "row {} has {} shares, and the question another number of answers".format(*rest.split(" ")),
     "stale": lambda rest, line, market: "revision {} was named, and {} is the present one: something has changed since".format(*rest.split(" ")),
     "resolved": lambda rest, line, market: f"{rest} is resolved already",
     "impossible": lambda rest, line, market: f"{rest} can no longer come, by what is known or by what is named with it",
     "sure": lambda rest, line, market: f"{rest} is certain under this condition: no other answer can come, so there is nothing to trade",
     "wide": lambda rest, line, market: wide(line, market),
     "numbers": lambda rest, line, market: f"there are {rest} shares, and the question has another number of answers",
-    "range": lambda rest, line, market: f"{rest} is outside: bits are 1 to 1,000, shares 1 to 999,999 (in a spread 0 for what cannot come)",
-    "sum": lambda rest, line, market: f"the shares make {int(rest):,} together, and not 1,000,000",
+    "range": lambda rest, line, market: in_range(rest, line),
+    "sum": lambda rest, line, market: f"the shares{' of a row' if line.startswith('add ') else ''} make {int(rest):,} together, and not 1,000,000",
+    "cells": lambda rest, line, market: (f"with this group all have {int(rest):,} cells, and a market takes {MOST_CELLS_TOGETHER:,}, "
+                                         f"{MOST_CELLS:,} of them in one group"),
     "full": lambda rest, line, market: full(int(rest), line),
     "beyond": lambda rest, line, market: f"the price can be taken to {shares_text(rest)} until the next change: beyond, a factor would fall below one",
     "outside": lambda rest, line, market: f"each share has to be inside its bounds, in the order of the file: {shares_text(rest)}",
     "short": lambda rest, line, market: f"{rest} {'bit' if rest == '1' else 'bits'} can be taken out now: the rest is at stake",
     "open": lambda rest, line, market: f"{rest} is not resolved yet, and a settlement needs an answer to each question",
-    "memory": lambda rest, line, market: "the machine has too little memory for one user more; nothing has changed",
+    "memory": lambda rest, line, market: (f"the machine has too little memory for one {'question' if line.startswith('add ') else 'user'} more; "
+                                          "nothing has changed"),
 }
 
 

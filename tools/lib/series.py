@@ -60,6 +60,15 @@ def first_run(market, lines, wanted=None):
     return read_transcript(lines, replies)
 
 
+def markets_of(market, entries):
+    """The market of the file and those with the questions that these lines add, each with its revision."""
+    found = [(0, market)]
+    for revision, entry in numbered(entries):
+        if entry.command.kind == "add":
+            found.append((revision, found[-1][1].grown(entry.command.name, entry.command.addition)))
+    return found
+
+
 def sampled(changes, cost, free):
     """The revisions at which is asked: all of them, or so many that questions fit into a stream and pictures stay small."""
     count = len(changes) + 1
@@ -76,10 +85,11 @@ def is_kept(entry):
 
 
 class Probe:
-    """The second run: the lines that count, and questions behind each sampled change."""
+    """The second run: the lines that count, and questions behind each sampled change. The market is that behind all lines; `first` are the
+    questions of its file."""
 
-    def __init__(self, market, entries, questions, users):
-        self.market, self.questions, self.users = market, questions, users
+    def __init__(self, market, entries, questions, users, first):
+        self.market, self.questions, self.users, self.known = market, questions, users, set(first)
         kept = [entry for entry in entries if is_kept(entry)]
         cost = sum(len(market.values(name)) for name in questions) + len(users)
         self.samples = sampled([entry for entry in kept if entry.is_change()], cost, MOST_LINES - len(kept))
@@ -99,6 +109,8 @@ class Probe:
             self.joined.add(command.user)
         elif command.kind == "resolve":
             self.resolved[command.name] = (self.revision, command.value)
+        elif command.kind == "add":
+            self.known.add(command.name)
         elif command.kind == "settle":
             self.is_settled = True
 
@@ -106,7 +118,7 @@ class Probe:
         if self.is_settled or self.revision not in self.samples:
             return
         for name in self.questions:
-            if name not in self.resolved:
+            if name in self.known and name not in self.resolved:
                 for value in self.market.values(name):
                     self.lines.append(f"price {name}={value}")
                     self.owners.append(("price", name, value, self.revision))
@@ -191,13 +203,19 @@ def support_of(flow):
             flow.place([*question.parents, question.name], [0.0 if entry else None for row in question.rows for entry in row])
 
 
-def operator_series(market, entries, samples):
-    """What the trades so far can have cost at most and at least, over the states that are still possible, in points."""
+def bound_of(market):
+    """The most that the operator can lose in points, whatever comes and whoever trades."""
+    return floor_log2(10 ** (6 * len(market.questions)), least_weight(market), market.points)
+
+
+def operator_series(markets, entries, samples):
+    """What the trades so far can have cost at most and at least, over the states that are still possible, in points. A question that is added
+    makes no state of the others impossible, so all trades are reckoned over the market behind them."""
+    market, bounds = markets[-1][1], [[revision, bound_of(it)] for revision, it in markets]
     most, least = (Flow(market, lambda a, b: a + b, plus, 0.0) for plus in (max, min))
     support_of(most)
     support_of(least)
-    series = {"bound": floor_log2(10 ** (6 * len(market.questions)), least_weight(market), market.points),
-              "most": [[0, 0.0]], "least": [[0, 0.0]], "resolutions": []}
+    series = {"bound": bounds[0][1], "most": [[0, 0.0]], "least": [[0, 0.0]], "resolutions": [], **({"bounds": bounds} if len(bounds) > 1 else {})}
     changes = numbered(entries)
     progress = Progress("losses", len(changes))
     for revision, entry in changes:
@@ -230,7 +248,7 @@ def tree_series(market):
 
 
 def most_traded(market, entries, most=6):
-    """The questions that trades name most, in the order of the file; all where there are few."""
+    """The questions that trades name most, in the market's order; all where there are few."""
     counts = dict.fromkeys(market.questions, 0)
     for entry in entries:
         if entry.command is not None and entry.command.name in counts:
@@ -264,15 +282,17 @@ def check_names(market, entries, questions, users):
 
 
 def gather(market, lines, pictures, questions=None, users=None, wanted=None):
-    """All that the pictures plot; only the tree needs no program."""
+    """All that the pictures plot; only the tree needs no program, where no line adds a question to it."""
     data = {"market": market.title, "points_per_bit": market.points}
     lines = [line for line in lines if not is_blank(line)]
-    if set(pictures) & {"prices", "users", "operator"} or wanted is not None:
+    if set(pictures) & {"prices", "users", "operator"} or wanted is not None or any(line.startswith("add ") for line in lines):
         entries = first_run(market, lines, wanted)
+        markets = markets_of(market, entries)
+        first, market = market.questions, markets[-1][1]
         check_names(market, entries, questions or [], users or [])
         names = questions or (most_traded(market, entries) if "prices" in pictures else [])
         people = (users or busiest(entries)) if "users" in pictures else []
-        probe = Probe(market, entries, names if "prices" in pictures else [], people)
+        probe = Probe(market, entries, names if "prices" in pictures else [], people, first)
         data["last"] = probe.revision
         data["resolutions"] = {name: list(of) for name, of in probe.resolved.items()}
         found = probe.run() if {"prices", "users"} & set(pictures) else {}
@@ -281,7 +301,7 @@ def gather(market, lines, pictures, questions=None, users=None, wanted=None):
         if "users" in pictures:
             data["users"] = user_series(market, entries, probe, found)
         if "operator" in pictures:
-            data["operator"] = operator_series(market, entries, probe.samples)
+            data["operator"] = operator_series(markets, entries, probe.samples)
         if len(probe.samples) <= probe.revision:
             data["sampled"] = len(probe.samples)
     if "tree" in pictures:

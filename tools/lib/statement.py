@@ -29,22 +29,22 @@ SECTIONS = [
         "mk_session/specs/Transcript.antt", "mk_session/specs/Passed.antt", "mk_rules/specs/Transcript.antt", "mk_rules/specs/Standings.antt",
         "mk_io/specs/Stream.antt", "mk_io/specs/Cutting.antt"]),
     ("Commands and questions", [
-        "mk_command/src/command.rt", "mk_net/src/words.rt", "mk_net/src/name.rt", "mk_net/specs/Name.antt", "mk_net/specs/Bounds.antt",
-        "mk_net/specs/Network.antt", "mk_net/specs/Named.antt", "mk_net/specs/Asked.antt", "mk_net/specs/Events.antt",
+        "mk_command/src/command.rt", "mk_addition/src/add.rt", "mk_net/src/row.rt", "mk_net/src/words.rt", "mk_net/src/name.rt", "mk_net/specs/Name.antt", "mk_net/specs/Bounds.antt",
+        "mk_net/specs/Network.antt", "mk_net/specs/Zeros.antt", "mk_net/specs/Named.antt", "mk_net/specs/Asked.antt", "mk_net/specs/Events.antt",
         "mk_spread/specs/Spreads.antt"]),
-    ("Refusals", ["mk_reply/src/refusal.rt", "mk_net/specs/Firsts.antt", "mk_rules/specs/Refusals.antt"]),
+    ("Refusals", ["mk_reply/src/refusal.rt", "mk_net/specs/Firsts.antt", "mk_rules/specs/Refusals.antt", "mk_rules/specs/Additions.antt"]),
     ("Answers and quotes", [
         "mk_reply/src/reply.rt", "mk_reply/src/payments.rt", "mk_rules/specs/Answers.antt", "mk_rules/specs/Told.antt", "mk_rules/specs/Quotes.antt",
         "mk_reply/specs/Refusals.antt"]),
     ("The exact market", [
-        "mk_exact/specs/Market.antt", "mk_exact/specs/States.antt", "mk_exact/specs/InitialWeight.antt", "mk_exact/specs/Events.antt",
-        "mk_exact/specs/History.antt", "mk_exact/specs/Ratios.antt", "mk_exact/specs/Weight.antt", "mk_exact/specs/Factors.antt",
+        "mk_exact/specs/Market.antt", "mk_states/specs/States.antt", "mk_states/specs/InitialWeight.antt", "mk_states/specs/Events.antt",
+        "mk_exact/specs/History.antt", "mk_states/specs/Ratios.antt", "mk_states/specs/OfNetwork.antt", "mk_exact/specs/Weight.antt", "mk_exact/specs/Factors.antt",
         "mk_exact/specs/Prices.antt", "mk_exact/specs/Limits.antt", "mk_exact/specs/Sides.antt", "mk_exact/specs/Accepted.antt",
         "mk_exact/specs/Cash.antt", "mk_exact/specs/Proper.antt", "mk_exact/specs/Sound.antt", "mk_spread/specs/Bounds.antt",
         "mk_spread/specs/Markets.antt", "mk_spread/specs/Told.antt"]),
     ("The operator's bound", ["mk_exact/specs/Risk.antt", "mk_exact/specs/Laws.antt", "mk_rules/specs/Laws.antt"]),
     ("Texts", [
-        "mk_session/specs/Texts.antt", "mk_command/specs/Commands.antt", "mk_reply/specs/Replies.antt", "mk_text/specs/Texts.antt",
+        "mk_session/specs/Texts.antt", "mk_command/specs/Commands.antt", "mk_addition/specs/Adds.antt", "mk_reply/specs/Replies.antt", "mk_text/specs/Texts.antt",
         "mk_text/specs/Joined.antt", "mk_text/specs/Numbers.antt", "mk_file/specs/Faults.antt", "mk_net/src/key.rt", "mk_net/specs/Key.antt"]),
     ("The market file and its tree", [
         "mk_file/src/fault.rt", "mk_file/specs/File.antt", "mk_file/specs/Walk.antt", "mk_net/specs/Drafts.antt", "mk_file/specs/Counts.antt",
@@ -140,6 +140,7 @@ WORDS = {
     "sum": "the sum of a list",
     "sum_by": "the sum of what a function gives of the items",
     "count_by": "how many items pass a test",
+    "AllPairs": "each two items of a list, the earlier first, meet a statement",
     "bit_at": "`bit_at n i` is the bit of `n` at the place `i`, 0 or 1",
     "bit_or": "the bits that either number has",
     "◌≤◌": "at most",

@@ -210,6 +210,12 @@ class AsyncMarket:
         """The variable has the value, for good."""
         return await self.ask(commands.resolve(pair))
 
+    async def add(self, name: str, values: Sequence[str], parents: Sequence[str], rows: Sequence[Sequence[int]], clique: Sequence[str],
+                  link: int) -> replies.Added:
+        """Puts one question more into the market. `rows` has a row of shares for each list of the parents' values; `clique` holds the question and
+        its parents, and is linked to the clique with the number `link`."""
+        return await self.ask(commands.add(name, values, parents, rows, clique, link))
+
     async def settle(self) -> replies.Settlement:
         """Pays every user, once all variables are resolved."""
         return await self.ask(commands.settle())

@@ -54,7 +54,8 @@ class Chance:
 
 @dataclass(frozen=True, slots=True)
 class Best:
-    """A likeliest outcome, a pair for each variable in the file's order. Its chance lies between `low` and `high`, and that of none is above `most`."""
+    """A likeliest outcome, a pair for each variable in the file's order, those that were added last. Its chance lies between `low` and `high`, and that of none
+    is above `most`."""
 
     low: Decimal
     high: Decimal

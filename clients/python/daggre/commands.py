@@ -94,6 +94,13 @@ def resolve(pair: Pair | str) -> Command[replies.Resolved]:
     return Command(f"resolve {pair}", replies.Resolved)
 
 
+def add(name: str, values: Sequence[str], parents: Sequence[str], rows: Sequence[Sequence[int]], clique: Sequence[str], link: int) -> Command[replies.Added]:
+    """`clique` holds the new question and its parents, and is linked to the one that has the number `link`, from 1."""
+    bar = f" | {','.join(parents)}" if parents else ""
+    shares = ", ".join(" ".join(map(str, row)) for row in rows)
+    return Command(f"add {name}={','.join(values)}{bar} : {shares} in {','.join(clique)} to {link}", replies.Added)
+
+
 def settle() -> Command[replies.Settlement]:
     return Command("settle", replies.Settlement)
 

@@ -23,7 +23,7 @@ SECONDS_TO_END = 10.0
 
 @dataclass(frozen=True, slots=True)
 class Ready:
-    """The greeting of a market: how many variables it has, and how many points a bit has."""
+    """The greeting of a market: how many variables its file has, and how many points a bit has."""
 
     variables: int
     points_per_bit: int
@@ -225,6 +225,12 @@ class Market:
     def resolve(self, pair: Pair | str) -> replies.Resolved:
         """The variable has the value, for good."""
         return self.ask(commands.resolve(pair))
+
+    def add(self, name: str, values: Sequence[str], parents: Sequence[str], rows: Sequence[Sequence[int]], clique: Sequence[str],
+            link: int) -> replies.Added:
+        """Puts one question more into the market. `rows` has a row of shares for each list of the parents' values; `clique` holds the question and
+        its parents, and is linked to the clique with the number `link`."""
+        return self.ask(commands.add(name, values, parents, rows, clique, link))
 
     def settle(self) -> replies.Settlement:
         """Pays every user, once all variables are resolved."""

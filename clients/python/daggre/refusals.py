@@ -8,7 +8,7 @@ import re
 from collections.abc import Callable
 from dataclasses import dataclass
 
-from .amounts import BOX, COUNT, INTERVAL, Interval, box_text, interval_text, read_box, read_count, read_interval
+from .amounts import BOX, COUNT, INTERVAL, MOST_COUNTED, Interval, box_text, interval_text, read_box, read_count, read_interval
 from .questions import NAME, Pair
 
 
@@ -73,8 +73,38 @@ class TooManyUsers(Refusal):
 
 
 @dataclass(frozen=True, slots=True)
+class VariablesFull(Refusal):
+    """The market has as many variables as it takes."""
+
+    held: int
+
+    def __str__(self) -> str:
+        return f"refused variables {self.held}"
+
+
+@dataclass(frozen=True, slots=True)
+class Taken(Refusal):
+    """A variable has the name of the one that is to be added."""
+
+    variable: str
+
+    def __str__(self) -> str:
+        return f"refused taken {self.variable}"
+
+
+@dataclass(frozen=True, slots=True)
+class ValueTwice(Refusal):
+    """The first value that stands a second time among those of the variable that is to be added."""
+
+    value: str
+
+    def __str__(self) -> str:
+        return f"refused value {self.value}"
+
+
+@dataclass(frozen=True, slots=True)
 class UnknownVariable(Refusal):
-    """The variable of a whole distribution is unknown."""
+    """The variable of a whole distribution is unknown; of an addition it is the first such parent, else the first such name of the clique."""
 
     variable: str
 
@@ -94,12 +124,63 @@ class UnknownName(Refusal):
 
 @dataclass(frozen=True, slots=True)
 class Twice(Refusal):
-    """The first variable that occurs a second time in target and condition."""
+    """The first variable that occurs a second time in target and condition; of an addition among the parents, else in the clique."""
 
     variable: str
 
     def __str__(self) -> str:
         return f"refused twice {self.variable}"
+
+
+@dataclass(frozen=True, slots=True)
+class UnknownClique(Refusal):
+    """No clique has the number to which that of an addition is to be linked."""
+
+    number: int
+
+    def __str__(self) -> str:
+        return f"refused link {self.number}"
+
+
+@dataclass(frozen=True, slots=True)
+class Uncovered(Refusal):
+    """The first of the added variable and its parents that the clique does not hold."""
+
+    variable: str
+
+    def __str__(self) -> str:
+        return f"refused cover {self.variable}"
+
+
+@dataclass(frozen=True, slots=True)
+class NotRunning(Refusal):
+    """The first other name of the clique that does not lie in the one to which it is to be linked."""
+
+    variable: str
+
+    def __str__(self) -> str:
+        return f"refused running {self.variable}"
+
+
+@dataclass(frozen=True, slots=True)
+class RowCount(Refusal):
+    """There are so many rows, and not one for each list of the parents' values."""
+
+    count: int
+
+    def __str__(self) -> str:
+        return f"refused rows {self.count}"
+
+
+@dataclass(frozen=True, slots=True)
+class RowWidth(Refusal):
+    """The first row, from 1, that has another number of shares than there are values, and how many it has."""
+
+    row: int
+    count: int
+
+    def __str__(self) -> str:
+        return f"refused width {self.row} {self.count}"
 
 
 @dataclass(frozen=True, slots=True)
@@ -135,7 +216,7 @@ class Impossible(Refusal):
 
 @dataclass(frozen=True, slots=True)
 class Wide(Refusal):
-    """No clique of the file holds all variables of target and condition."""
+    """No clique of the market holds all variables of target and condition."""
 
     def __str__(self) -> str:
         return "refused wide"
@@ -163,12 +244,22 @@ class OutOfRange(Refusal):
 
 @dataclass(frozen=True, slots=True)
 class Sum(Refusal):
-    """The shares make this together, and not a million."""
+    """The shares make this together, and not a million; of an addition those of the first such row."""
 
     sum: int
 
     def __str__(self) -> str:
         return f"refused sum {self.sum}"
+
+
+@dataclass(frozen=True, slots=True)
+class TooManyCells(Refusal):
+    """With the clique of an addition all cliques have so many cells, or it alone has more than one may."""
+
+    total: int
+
+    def __str__(self) -> str:
+        return f"refused cells {self.total}"
 
 
 @dataclass(frozen=True, slots=True)
@@ -247,9 +338,17 @@ _TEXTS: list[tuple[str, Callable[..., Refusal]]] = [
     (f"user ({NAME})", UnknownUser),
     (f"exists ({NAME})", Exists),
     (f"users {COUNT}", lambda n: TooManyUsers(read_count(n, 65536))),
+    (f"variables {COUNT}", lambda n: VariablesFull(read_count(n, 256))),
+    (f"taken ({NAME})", Taken),
+    (f"value ({NAME})", ValueTwice),
     (f"variable ({NAME})", UnknownVariable),
     (f"name ({_PAIR_TEXT})", lambda p: UnknownName(Pair.read(p))),
     (f"twice ({NAME})", Twice),
+    (f"link {COUNT}", lambda n: UnknownClique(read_count(n, MOST_COUNTED))),
+    (f"cover ({NAME})", Uncovered),
+    (f"running ({NAME})", NotRunning),
+    (f"rows {COUNT}", lambda n: RowCount(read_count(n, MOST_COUNTED))),
+    (f"width {COUNT} {COUNT}", lambda row, n: RowWidth(read_count(row, MOST_COUNTED), read_count(n, MOST_COUNTED))),
     (f"stale {COUNT} {COUNT}", lambda r, n: Stale(read_count(r), read_count(n))),
     (f"resolved ({NAME})", AlreadyResolved),
     (f"impossible ({_PAIR_TEXT})", lambda p: Impossible(Pair.read(p))),
@@ -257,6 +356,7 @@ _TEXTS: list[tuple[str, Callable[..., Refusal]]] = [
     (f"numbers {COUNT}", lambda n: Numbers(read_count(n))),
     (f"range {COUNT}", lambda n: OutOfRange(read_count(n))),
     (f"sum {COUNT}", lambda n: Sum(read_count(n))),
+    (f"cells {COUNT}", lambda n: TooManyCells(read_count(n, MOST_COUNTED))),
     (f"full {COUNT}", lambda n: Full(read_count(n))),
     (f"sure ({_PAIR_TEXT})", lambda p: Sure(Pair.read(p))),
     (f"beyond {INTERVAL}", lambda text: Beyond(read_interval(text))),

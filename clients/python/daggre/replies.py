@@ -100,7 +100,7 @@ class Traded(Reply):
 
 @dataclass(frozen=True, slots=True)
 class Bounds(Reply):
-    """`bounds`: an interval of shares for each value in the file's order; None where the user can take no whole distribution."""
+    """`bounds`: an interval of shares for each value in the question's order; None where the user can take no whole distribution."""
 
     intervals: tuple[Interval, ...] | None
     at: int
@@ -133,7 +133,7 @@ class Worst(Reply):
 
 @dataclass(frozen=True, slots=True)
 class Prices(Reply):
-    """`prices`: for each value in the file's order an interval of its price, as near as that of `price`."""
+    """`prices`: for each value in the question's order an interval of its price, as near as that of `price`."""
 
     intervals: tuple[Price, ...]
 
@@ -143,7 +143,7 @@ class Prices(Reply):
 
 @dataclass(frozen=True, slots=True)
 class Position(Reply):
-    """`position`: for each value in the file's order what the user is paid at least where it comes; None for a value that cannot come."""
+    """`position`: for each value in the question's order what the user is paid at least where it comes; None for a value that cannot come."""
 
     intervals: tuple[Points | None, ...]
 
@@ -178,6 +178,17 @@ class Resolved(Reply):
 
     def __str__(self) -> str:
         return f"resolve {self.pair} at {self.at}"
+
+
+@dataclass(frozen=True, slots=True)
+class Added(Reply):
+    """`add`: the variable is a question of the market from now on."""
+
+    variable: str
+    at: int
+
+    def __str__(self) -> str:
+        return f"add {self.variable} at {self.at}"
 
 
 @dataclass(frozen=True, slots=True)
@@ -258,6 +269,7 @@ _TEXTS: list[tuple[str, Callable[..., Reply]]] = [
     (f"deposit ({NAME}) {COUNT} at {COUNT}", lambda user, bits, at: Deposited(user, read_count(bits), read_count(at))),
     (f"withdraw ({NAME}) {COUNT} at {COUNT}", lambda user, bits, at: Withdrawn(user, read_count(bits), read_count(at))),
     (f"resolve ({NAME}={NAME}) at {COUNT}", lambda text, at: Resolved(Pair.read(text), read_count(at))),
+    (f"add ({NAME}) at {COUNT}", lambda variable, at: Added(variable, read_count(at))),
     (f"settle at {COUNT}((?:, [^,]*)*)", _settlement),
     (rf"bound {COUNT}\.\.{COUNT}", lambda a, b: Bound(read_count(a), read_count(b))),
 ]

@@ -41,6 +41,22 @@ def test_every_command_has_a_method(example):
     assert run(work()) == 0
 
 
+def test_a_question_that_is_added(example):
+    async def work():
+        async with AsyncMarket(example("weather")) as market:
+            try:
+                added = await market.add("umbrella", ["yes", "no"], ["rain"], [[900000, 100000], [200000, 800000]], ["rain", "umbrella"], 1)
+            except daggre.Refused as refused:
+                return refused.cause, None
+            return added, await market.price("umbrella=yes")
+
+    added, price = run(work())
+    if added == refusals.Syntax():
+        pytest.skip("this program has no command add")
+    assert added == replies.Added("umbrella", 1)
+    assert price == replies.Price(Decimal("0.438"), Decimal("0.438"))
+
+
 def test_many_tasks_get_their_own_replies(example):
     async def one(market, name):
         joined = await market.user(name)

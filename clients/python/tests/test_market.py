@@ -53,6 +53,61 @@ def test_the_bound_where_the_program_knows_it(coin):
     assert coin.bound() == replies.Bound(100, 100)
 
 
+def add_umbrella(market):
+    return market.add("umbrella", ["yes", "no"], ["rain"], [[900000, 100000], [200000, 800000]], ["rain", "umbrella"], 1)
+
+
+@pytest.fixture
+def umbrella(example, built):
+    """The market of the weather with a question that was added; the reply is that of the addition."""
+    with Market(example("weather"), timeout=20) as market:
+        try:
+            market.added = add_umbrella(market)
+        except daggre.Refused as refused:
+            if refused.cause == refusals.Syntax():
+                pytest.skip("this program has no command add")
+            raise
+        yield market
+
+
+def test_a_question_that_is_added(umbrella):
+    assert umbrella.added == replies.Added("umbrella", 1)
+    assert umbrella.price("umbrella=yes") == replies.Price(Decimal("0.438"), Decimal("0.438"))
+    assert umbrella.price("rain=yes") == replies.Price(Decimal("0.34"), Decimal("0.34"))
+    assert umbrella.read_status() == replies.Status(1, 0, 0, 1000, 0, 65536, 3, 3)
+    assert umbrella.many([commands.price("umbrella=yes | season=wet"), commands.resolve("umbrella=yes")]) == [refusals.Wide(), replies.Resolved(daggre.Pair("umbrella", "yes"), 2)]
+
+
+HALF = [[500000, 500000]]
+
+
+@pytest.mark.parametrize("name, values, parents, rows, clique, link, cause", [
+    ("umbrella", "ab", [], HALF, ["umbrella"], 1, refusals.Taken("umbrella")),
+    ("wind", "aa", [], HALF, ["wind"], 1, refusals.ValueTwice("a")),
+    ("wind", "ab", ["snow"], HALF, ["wind"], 1, refusals.UnknownVariable("snow")),
+    ("wind", "ab", ["rain", "rain"], HALF, ["wind"], 1, refusals.Twice("rain")),
+    ("wind", "ab", [], HALF, ["wind"], 4, refusals.UnknownClique(4)),
+    ("wind", "ab", ["rain"], HALF, ["wind"], 1, refusals.Uncovered("rain")),
+    ("mood", "ab", ["season", "umbrella"], HALF, ["season", "umbrella", "mood"], 1, refusals.NotRunning("umbrella")),
+    ("wind", "ab", ["rain"], HALF, ["rain", "wind"], 1, refusals.RowCount(1)),
+    ("wind", "ab", [], [[1, 2, 3]], ["wind"], 1, refusals.RowWidth(1, 3)),
+    ("wind", "ab", [], [[0, 1000000]], ["wind"], 1, refusals.OutOfRange(0)),
+    ("wind", "ab", [], [[500000, 400000]], ["wind"], 1, refusals.Sum(900000)),
+    ("wind", "a", [], [[1000000]], ["wind"], 1, refusals.Syntax()),
+])
+def test_an_addition_is_refused_with_its_cause(umbrella, name, values, parents, rows, clique, link, cause):
+    with pytest.raises(daggre.Refused) as raised:
+        umbrella.add(name, list(values), parents, rows, clique, link)
+    assert raised.value.cause == cause
+    assert umbrella.read_status().questions == 3
+
+
+def test_an_addition_of_two_lines_is_not_sent(umbrella):
+    with pytest.raises(daggre.NotALine):
+        umbrella.add("wind\nsettle", ["a", "b"], [], HALF, ["wind"], 1)
+    assert umbrella.read_status().questions == 3
+
+
 @pytest.mark.parametrize("ask, cause", [
     (lambda m: m.price("coin=edge"), refusals.UnknownName(daggre.Pair("coin", "edge"))),
     (lambda m: m.price("Coin"), refusals.Syntax()),

@@ -1,10 +1,11 @@
 """Markets that are kept: they go on from their store, also behind a kill, and say why a store is refused or cannot be opened."""
 import asyncio
+from decimal import Decimal
 
 import pytest
 
 import daggre
-from daggre import AsyncMarket, Market, commands, replies
+from daggre import AsyncMarket, Market, commands, refusals, replies
 
 
 @pytest.fixture
@@ -38,6 +39,17 @@ def test_what_was_told_stands_behind_a_kill(kept, store):
     with Market(kept, store=store, timeout=20) as market:
         assert market.resumed == 51
         assert market.worst("alice") == replies.Worst(5000, 5000)
+
+
+def test_a_question_that_was_added_is_there_again(kept, store):
+    with Market(kept, store=store, timeout=20) as market:
+        added = market.many([commands.add("bet", ["yes", "no"], ["coin"], [[900000, 100000], [200000, 800000]], ["bet", "coin"], 1)])
+    if added == [refusals.Syntax()]:
+        pytest.skip("this program has no command add")
+    assert added == [replies.Added("bet", 1)]
+    with Market(kept, store=store, timeout=20) as market:
+        assert (market.ready.variables, market.resumed, market.read_status().questions) == (1, 1, 2)
+        assert market.price("bet=yes") == replies.Price(Decimal("0.55"), Decimal("0.55"))
 
 
 def test_a_market_without_a_store_has_none(kept):

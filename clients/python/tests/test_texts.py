@@ -4,7 +4,8 @@ from pathlib import Path
 
 import pytest
 
-from daggre import FileFault, Interval, Pair, Points, Question, read_reply, refusals, replies
+from daggre import FileFault, Interval, Pair, Points, Question, commands, read_reply, refusals, replies
+from daggre.errors import UnknownLine
 from daggre.questions import Distribution
 
 GREATEST = 2**63 - 1
@@ -31,6 +32,8 @@ REPLIES = {
     "status at 4 users 2 trades 1 of 1000 transfers 3 of 65536 open 1 of 2": replies.Status(4, 2, 1, 1000, 3, 65536, 1, 2),
     f"status at {GREATEST} users {2**32 - 1} trades 0 of 1 transfers 0 of 1 open 0 of 1": replies.Status(GREATEST, 2**32 - 1, 0, 1, 0, 1, 0, 1),
     "resolve storm=no at 6": replies.Resolved(Pair("storm", "no"), 6),
+    "add umbrella at 1": replies.Added("umbrella", 1),
+    f"add add at {GREATEST}": replies.Added("add", GREATEST),
     "settle at 9": replies.Settlement(9, ()),
     "settle at 9, alice 67..67 paid 67, bob 0..1 paid 0": replies.Settlement(9, (replies.Payment("alice", 67, 67), replies.Payment("bob", 0, 1))),
     "bound 300..301": replies.Bound(300, 301),
@@ -40,9 +43,18 @@ REPLIES = {
     "refused user alice": refusals.UnknownUser("alice"),
     "refused exists alice": refusals.Exists("alice"),
     "refused users 256": refusals.TooManyUsers(256),
+    "refused variables 256": refusals.VariablesFull(256),
+    "refused taken umbrella": refusals.Taken("umbrella"),
+    "refused value a": refusals.ValueTwice("a"),
     "refused variable snow": refusals.UnknownVariable("snow"),
     "refused name storm=maybe": refusals.UnknownName(Pair("storm", "maybe")),
     "refused twice storm": refusals.Twice("storm"),
+    "refused link 4": refusals.UnknownClique(4),
+    "refused link 0": refusals.UnknownClique(0),
+    "refused cover rain": refusals.Uncovered("rain"),
+    "refused running umbrella": refusals.NotRunning("umbrella"),
+    "refused rows 1": refusals.RowCount(1),
+    "refused width 2 3": refusals.RowWidth(2, 3),
     "refused stale 5 1": refusals.Stale(5, 1),
     "refused resolved storm": refusals.AlreadyResolved("storm"),
     "refused impossible storm=no": refusals.Impossible(Pair("storm", "no")),
@@ -50,6 +62,7 @@ REPLIES = {
     "refused numbers 3": refusals.Numbers(3),
     "refused range 1001": refusals.OutOfRange(1001),
     "refused sum 1100000": refusals.Sum(1100000),
+    "refused cells 32772": refusals.TooManyCells(32772),
     "refused full 1": refusals.Full(1),
     "refused sure storm=yes": refusals.Sure(Pair("storm", "yes")),
     "refused beyond 250000..250000": refusals.Beyond(Interval(250000, 250000)),
@@ -70,6 +83,9 @@ NO_REPLIES = [
     "prices 0.5000000000..0.5000000000  0.5000000000..0.5000000000", "prices 0.5000000000..0.5000000000 1.0000000001..1.0000000001", "position none",
     "position 5..5", "position 5..5 05..6", f"position{' 5..5' * 17}", f"position 5..5 0..{GREATEST + 1}", "status", "status at 1 users 1 trades 1 of 5 open 1 of 2",
     f"status at 1 users 1 trades 0 of 1 transfers 0 of {2**32} open 1 of 1", f"status at {GREATEST + 1} users 1 trades 0 of 1 transfers 0 of 1 open 1 of 1",
+    "add", "add umbrella", "add Umbrella at 1", "add umbrella=yes,no at 1", "add umbrella at 01", f"add umbrella at {GREATEST + 1}", "refused variables 257",
+    "refused variables", "refused taken", "refused value 1", "refused link", "refused link -1", f"refused link {2**32}", "refused cover rain=yes", "refused rows a",
+    "refused width 2", "refused width 2 3 4", f"refused width {2**32} 1", "refused cells", f"refused cells {2**32}",
     "bound 5", "bound 5..6 at 1", "bound none", "refused", "refused sure w", "refused users 65537", "refused beyond", "refused Syntax", "refused syntax ",
     "refused market toml", "price 0.5000000000..0.5000000000\n", "price ٠.5000000000..0.5000000000", "settle at 9" + "".join(f", u{k} 0..0 paid 0" for k in range(257)),
 ]
@@ -131,6 +147,21 @@ def test_questions_about_every_value():
     assert str(Distribution.read("ferry")) == "ferry"
     with pytest.raises(ValueError):
         Distribution.read("ferry=sails")
+
+
+@pytest.mark.parametrize("command, line", [
+    (commands.add("umbrella", ["yes", "no"], ["rain"], [[900000, 100000], [200000, 800000]], ["rain", "umbrella"], 1),
+     "add umbrella=yes,no | rain : 900000 100000, 200000 800000 in rain,umbrella to 1"),
+    (commands.add("wind", ("a", "b", "c"), (), [(300000, 300000, 400000)], ("wind",), 2), "add wind=a,b,c : 300000 300000 400000 in wind to 2"),
+    (commands.add("mood", ["a", "b"], ["season", "rain"], [[1, 999999]] * 4, ["mood", "rain", "season"], 1),
+     "add mood=a,b | season,rain : 1 999999, 1 999999, 1 999999, 1 999999 in mood,rain,season to 1"),
+])
+def test_additions_are_their_lines(command, line):
+    assert command.line == line
+    assert command.read("add it at 1") == replies.Added("it", 1)
+    assert command.read("refused link 9") == refusals.UnknownClique(9)
+    with pytest.raises(UnknownLine):
+        command.read("settle at 1")
 
 
 @pytest.mark.parametrize("line, fault", [
