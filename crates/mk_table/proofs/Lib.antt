@@ -29,3 +29,6 @@ pub mod Spread
 pub mod Pluses
 pub mod Anew
 pub mod Margins
+pub mod Stored
+pub mod Ranges
+pub mod Made

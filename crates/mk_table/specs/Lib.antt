@@ -3,4 +3,5 @@ pub mod Cells
 pub mod Tables
 pub mod Ratios
 pub mod Margins
+pub mod Lists
 pub mod inner

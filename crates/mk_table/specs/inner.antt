@@ -4,3 +4,4 @@ pub mod Strides
 pub mod Parts
 pub mod Blank
 pub mod Touched
+pub mod Store

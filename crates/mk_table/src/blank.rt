@@ -51,7 +51,7 @@ pub(crate) fn fill(digits: &mut Vec<u64>, exponents: &mut Vec<u32>, cells: usize
 }
 
 /// Appends one value until there are so many.
-fn append_until<T: Copy>(values: &mut Vec<T>, value: T, count: usize)
+pub(crate) fn append_until<T: Copy>(values: &mut Vec<T>, value: T, count: usize)
     requires { count ≤ vec_capacity values.old }
     ensures items { values.new.items ≡ filled value count values.old.items }
     ensures room { vec_capacity values.new ≡ vec_capacity values.old }
@@ -86,6 +86,8 @@ fn put_everywhere(digits: &mut Vec<u64>, exponents: &mut Vec<u32>, cell: Cell, c
     ensures digits { filled one_digits cells digits.new.items ≡ replicate cells cell.digits }
     ensures exponents { filled one_exponent cells exponents.new.items ≡ replicate cells cell.exponent }
     ensures held { AreHeld cells digits.new.items exponents.new.items (vec_capacity digits.new) (vec_capacity exponents.new) }
+    ensures digits_room { vec_capacity digits.new ≡ vec_capacity digits.old }
+    ensures exponents_room { vec_capacity exponents.new ≡ vec_capacity exponents.old }
 {
     digits.clear();
     exponents.clear();
@@ -158,7 +160,7 @@ pub(crate) fn put_held(
 }
 
 /// Puts into each cell the other's cell that is listed for it.
-fn put_cells(
+pub(crate) fn put_cells(
     digits: &mut [u64],
     exponents: &mut [u32],
     onto: &[u16],
@@ -204,6 +206,8 @@ pub(crate) fn plus_of_each<R: Semiring>(
         → StandsAt k (slice_index (filled one_digits (length bases.now) out_digits.new.items) b) (slice_index (filled one_exponent (length bases.now) out_exponents.new.items) b)
         (plus_over R.plus_of 0 (λ c. f (slice_index bases.now b + c)) (runs_of run offsets.now)) (n + (2 * length (runs_of run offsets.now) - 1)) }
     ensures held { AreHeld (length bases.now) out_digits.new.items out_exponents.new.items (vec_capacity out_digits.new) (vec_capacity out_exponents.new) }
+    ensures digits_room { vec_capacity out_digits.new ≡ vec_capacity out_digits.old }
+    ensures exponents_room { vec_capacity out_exponents.new ≡ vec_capacity out_exponents.old }
 {
     if digits.len() < cells {
         let cell = plus_of_ones::<R>(offsets.len() * run);

@@ -43,6 +43,8 @@ pub(crate) fn margin_times<R: Semiring>(
         (cell_in other_places.now.part places.now.whole) (cells_onto places.now.part places.now.whole d) (2 * cells_beside places.now.part places.now.whole + 1)
         (slice_index (filled one_digits (cells_in places.now.part) out_digits.new.items) d) (slice_index (filled one_exponent (cells_in places.now.part) out_exponents.new.items) d) }
     ensures held { AreHeld (cells_in places.now.part) out_digits.new.items out_exponents.new.items (vec_capacity out_digits.new) (vec_capacity out_exponents.new) }
+    ensures digits_room { vec_capacity out_digits.new ≡ vec_capacity out_digits.old }
+    ensures exponents_room { vec_capacity out_exponents.new ≡ vec_capacity out_exponents.old }
     ensures lies_in { LiesIn places.now.part places.now.whole }
     ensures other_lies_in { LiesIn other_places.now.part places.now.whole }
     ensures beside { cells_in places.now.part * cells_beside places.now.part places.now.whole ≡ cells_in places.now.whole }

@@ -9,13 +9,18 @@ mod part;
 mod picked;
 mod products;
 mod scope;
+mod scopes;
+mod store;
 mod strides;
 mod table;
+mod tables;
 mod tail;
 mod times;
 mod touched;
 
 pub use part::Places;
 pub use scope::Scope;
+pub use scopes::Scopes;
 pub use strides::CellList;
 pub use table::Table;
+pub use tables::Tables;

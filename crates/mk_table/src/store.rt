@@ -1,0 +1,676 @@
+//! The cells of all tables of an engine, in two arrays, and where those of each table stand.
+
+ghost use Rattle.std.specs.Prelude.{◌≡◌, ℕ, ◌+◌, ◌<◌, ◌≤◌, ◌==◌, ◌++◌, ◌∷◌, true, All, List, [], Option, None, Some, length, slice_index, replicate, slice_set, vec_len, vec_capacity};
+ghost use Rattle.mk_net.specs.declared.words.Pair.{Pair};
+ghost use Rattle.mk_net.specs.Named.{variable_at};
+ghost use Rattle.mk_net.specs.Asked.{ratio_pairs};
+ghost use Rattle.mk_net.specs.Trades.{trade_ratio};
+ghost use Rattle.mk_states.specs.Ratios.{units_of};
+ghost use Rattle.mk_sums.specs.There.{share_there, support_there};
+ghost use Rattle.mk_table.specs.Scopes.{HasEvent, HasOneEach, HasSized, LiesIn, cells_in, has_variable};
+ghost use Rattle.mk_table.specs.Cells.{values_at, cell_in, cells_where};
+ghost use Rattle.mk_table.specs.Tables.{is_untouched_by, max_shift};
+ghost use Rattle.mk_table.specs.Lists.{table_in};
+ghost use Rattle.mk_table.specs.inner.Blank.{one_digits, one_exponent, filled};
+ghost use Rattle.mk_table.specs.inner.Parts.{AreBlankOrFull, HaveRoom, IsAmong, IsChanged, IsFull, IsRestricted, IsTimes, IsTimesCell};
+ghost use Rattle.mk_table.specs.inner.Touched.{IsBeside, IsEither, IsEitherWithin, IsWithin};
+ghost use Rattle.mk_table.specs.inner.Store.{IsBlankFrom, IsNowhere, IsStoreOf, IsWrittenFrom, StandsFrom, is_written, store_tables, no_head, head_in, scope_in, with_cells, with_ratios};
+
+use crate::blank::{append_until, copy_over, one, put_cells};
+use crate::part::Places;
+use crate::picked::RATIO_SHIFT;
+use crate::scopes::Scopes;
+use crate::times::{keep_value, times_cells, times_shares, times_supports, times_units};
+use crate::touched::{beside, is_untouched_by, put_either_within, put_within, take_either};
+use mk_net::{Event, Network, Pair, Ratio};
+
+/// Where the cells of a table stand.
+#[derive(Clone, Copy)]
+pub(crate) enum Place {
+    /// Nowhere yet: each is 1.
+    Nowhere,
+    /// They have a place from here on, of which nothing counts: each is 1.
+    Blank(usize),
+    /// From here on.
+    Written(usize),
+}
+
+/// What is kept of a table beside its cells.
+#[derive(Clone, Copy)]
+pub(crate) struct Head {
+    pub(crate) place: Place,
+    pub(crate) shift: u32,
+    pub(crate) touched: Option<Event>,
+}
+
+/// A head for each table, or none while no table was changed, and the cells of those that were written.
+#[derive(Drop)]
+pub(crate) struct Store {
+    pub(crate) heads: Vec<Head>,
+    pub(crate) digits: Vec<u64>,
+    pub(crate) exponents: Vec<u32>,
+}
+
+/// Two arrays with room for the cells of each table, through which cells go from one table to another.
+#[derive(Drop)]
+pub(crate) struct Spare {
+    pub(crate) digits: Vec<u64>,
+    pub(crate) exponents: Vec<u32>,
+}
+
+impl Store {
+    /// Writes the heads, if there are none yet.
+    #[inline]
+    pub(crate) fn open(&mut self, scopes: &Scopes)
+        requires { IsStoreOf scopes.now self.old }
+        ensures store { IsStoreOf scopes.now self.new }
+        ensures tables { store_tables scopes.now self.new ≡ store_tables scopes.now self.old }
+        ensures heads { length self.new.heads.items ≡ length scopes.now }
+        ensures kept { (k : ℕ) → head_in self.new.heads.items k ≡ head_in self.old.heads.items k }
+    {
+        if self.heads.is_empty() {
+            put_heads(&mut self.heads, scopes.count());
+        }
+    }
+
+    /// Where the cells of a table stand.
+    #[inline]
+    pub(crate) fn place(&self, k: usize) -> Place
+        ensures { result ≡ (head_in self.now.heads.items k).place }
+    {
+        match self.heads.get(k) {
+            Some(head) => head.place,
+            None => Place::Nowhere,
+        }
+    }
+
+    /// How many places of two the cells of a table are shifted by.
+    #[inline]
+    pub(crate) fn shift(&self, k: usize) -> u32
+        ensures { result ≡ (head_in self.now.heads.items k).shift }
+    {
+        match self.heads.get(k) {
+            Some(head) => head.shift,
+            None => 0,
+        }
+    }
+
+    /// Whether the cells of a table are written.
+    #[inline]
+    pub(crate) fn is_written(&self, k: usize) -> bool
+        ensures { result ≡ is_written (head_in self.now.heads.items k).place }
+    {
+        match self.place(k) {
+            Place::Written(_) => true,
+            _ => false,
+        }
+    }
+
+    /// Whether no ratio touched a cell of a table where an event holds.
+    #[inline]
+    pub(crate) fn is_untouched(&self, k: usize, event: &Event) -> bool
+        ensures { result ≡ is_untouched_by (head_in self.now.heads.items k).touched event.now }
+    {
+        match self.heads.get(k) {
+            Some(head) => is_untouched_by(&head.touched, event),
+            None => true,
+        }
+    }
+
+    /// The cells of a table, if they are written.
+    #[inline]
+    pub(crate) fn cells(&self, scopes: &Scopes, k: usize) -> (&[u64], &[u32])
+        requires store { IsStoreOf scopes.now self.now }
+        requires table { k < length scopes.now }
+        ensures whole { AreBlankOrFull (cells_in (scope_in scopes.now k)) result.0.now result.1.now }
+        ensures digits { filled one_digits (cells_in (scope_in scopes.now k)) result.0.now ≡ (table_in (store_tables scopes.now self.now) k).digits }
+        ensures exponents { filled one_exponent (cells_in (scope_in scopes.now k)) result.1.now ≡ (table_in (store_tables scopes.now self.now) k).exponents }
+        ensures written { is_written (head_in self.now.heads.items k).place ≡ true → length result.0.now ≡ cells_in (scope_in scopes.now k) }
+    {
+        match self.place(k) {
+            Place::Written(first) => {
+                let end = first + scopes.scope(k).cells();
+                (&self.digits[first..end], &self.exponents[first..end])
+            }
+            _ => (&self.digits[..0], &self.exponents[..0]),
+        }
+    }
+
+    /// Writes the cells of a table, if they are not written, and says where they begin.
+    pub(crate) fn written(&mut self, scopes: &Scopes, k: usize) -> usize
+        requires store { IsStoreOf scopes.now self.old }
+        requires heads { length self.old.heads.items ≡ length scopes.now }
+        requires table { k < length scopes.now }
+        ensures store { IsStoreOf scopes.now self.new }
+        ensures heads { length self.new.heads.items ≡ length scopes.now }
+        ensures tables { store_tables scopes.now self.new ≡ store_tables scopes.now self.old }
+        ensures place { IsWrittenFrom self.new.heads.items k result }
+    {
+        match self.heads[k].place {
+            Place::Nowhere => {
+                let first = self.digits.len();
+                self.fill_end(scopes, k);
+                first
+            }
+            Place::Blank(first) => {
+                self.fill_at(scopes, k, first);
+                first
+            }
+            Place::Written(first) => first,
+        }
+    }
+
+    /// Writes ones at the end, as the cells of a table that stands nowhere.
+    fn fill_end(&mut self, scopes: &Scopes, k: usize)
+        requires store { IsStoreOf scopes.now self.old }
+        requires heads { length self.old.heads.items ≡ length scopes.now }
+        requires table { k < length scopes.now }
+        requires nowhere { IsNowhere self.old.heads.items k }
+        ensures store { IsStoreOf scopes.now self.new }
+        ensures heads { length self.new.heads.items ≡ length scopes.now }
+        ensures tables { store_tables scopes.now self.new ≡ store_tables scopes.now self.old }
+        ensures place { IsWrittenFrom self.new.heads.items k (length self.old.digits.items) }
+    {
+        let count = scopes.scope(k).cells();
+        let one = one();
+        let first = self.digits.len();
+        self.heads[k].place = Place::Written(first);
+        append_until(&mut self.digits, one.digits, first + count);
+        append_until(&mut self.exponents, one.exponent, first + count);
+    }
+
+    /// Writes ones where the cells of a blank table stand.
+    fn fill_at(&mut self, scopes: &Scopes, k: usize, first: usize)
+        requires store { IsStoreOf scopes.now self.old }
+        requires heads { length self.old.heads.items ≡ length scopes.now }
+        requires table { k < length scopes.now }
+        requires blank { IsBlankFrom self.old.heads.items k first }
+        ensures store { IsStoreOf scopes.now self.new }
+        ensures heads { length self.new.heads.items ≡ length scopes.now }
+        ensures tables { store_tables scopes.now self.new ≡ store_tables scopes.now self.old }
+        ensures place { IsWrittenFrom self.new.heads.items k first }
+    {
+        let count = scopes.scope(k).cells();
+        let one = one();
+        self.heads[k].place = Place::Written(first);
+        put_each(&mut self.digits[first..first + count], one.digits);
+        put_each(&mut self.exponents[first..first + count], one.exponent);
+    }
+
+    /// Puts cells into a table: ones, where nothing is written of them.
+    pub(crate) fn put(&mut self, scopes: &Scopes, k: usize, spare: &Spare)
+        requires store { IsStoreOf scopes.now self.old }
+        requires heads { length self.old.heads.items ≡ length scopes.now }
+        requires table { k < length scopes.now }
+        requires whole { AreBlankOrFull (cells_in (scope_in scopes.now k)) spare.now.digits.items spare.now.exponents.items }
+        ensures store { IsStoreOf scopes.now self.new }
+        ensures heads { length self.new.heads.items ≡ length scopes.now }
+        ensures tables { store_tables scopes.now self.new ≡ slice_set (store_tables scopes.now self.old) k
+            (with_cells (table_in (store_tables scopes.now self.old) k) (filled one_digits (cells_in (scope_in scopes.now k)) spare.now.digits.items)
+            (filled one_exponent (cells_in (scope_in scopes.now k)) spare.now.exponents.items)) }
+    {
+        let count = scopes.scope(k).cells();
+        if spare.digits.len() < count {
+            self.blank(scopes, k);
+            return;
+        }
+        match self.heads[k].place {
+            Place::Nowhere => self.put_end(scopes, k, spare),
+            Place::Blank(first) => self.put_at(scopes, k, first, spare),
+            Place::Written(first) => self.put_at(scopes, k, first, spare),
+        }
+    }
+
+    /// Writes cells at the end, as those of a table that stands nowhere.
+    fn put_end(&mut self, scopes: &Scopes, k: usize, spare: &Spare)
+        requires store { IsStoreOf scopes.now self.old }
+        requires heads { length self.old.heads.items ≡ length scopes.now }
+        requires table { k < length scopes.now }
+        requires nowhere { IsNowhere self.old.heads.items k }
+        requires digits { length spare.now.digits.items ≡ cells_in (scope_in scopes.now k) }
+        requires exponents { length spare.now.exponents.items ≡ cells_in (scope_in scopes.now k) }
+        ensures store { IsStoreOf scopes.now self.new }
+        ensures heads { length self.new.heads.items ≡ length scopes.now }
+        ensures tables { store_tables scopes.now self.new ≡ slice_set (store_tables scopes.now self.old) k
+            (with_cells (table_in (store_tables scopes.now self.old) k) spare.now.digits.items spare.now.exponents.items) }
+    {
+        let _ = scopes.count();
+        self.heads[k].place = Place::Written(self.digits.len());
+        append(&mut self.digits, &spare.digits);
+        append(&mut self.exponents, &spare.exponents);
+    }
+
+    /// Writes cells where those of a table stand.
+    fn put_at(&mut self, scopes: &Scopes, k: usize, first: usize, spare: &Spare)
+        requires store { IsStoreOf scopes.now self.old }
+        requires heads { length self.old.heads.items ≡ length scopes.now }
+        requires table { k < length scopes.now }
+        requires stands { StandsFrom (head_in self.old.heads.items k).place first }
+        requires digits { length spare.now.digits.items ≡ cells_in (scope_in scopes.now k) }
+        requires exponents { length spare.now.exponents.items ≡ cells_in (scope_in scopes.now k) }
+        ensures store { IsStoreOf scopes.now self.new }
+        ensures heads { length self.new.heads.items ≡ length scopes.now }
+        ensures tables { store_tables scopes.now self.new ≡ slice_set (store_tables scopes.now self.old) k
+            (with_cells (table_in (store_tables scopes.now self.old) k) spare.now.digits.items spare.now.exponents.items) }
+    {
+        let count = scopes.scope(k).cells();
+        self.heads[k].place = Place::Written(first);
+        self.digits[first..first + count].copy_from_slice(&spare.digits);
+        self.exponents[first..first + count].copy_from_slice(&spare.exponents);
+    }
+
+    /// Multiplies each cell of a table by the share that it picks in the rows of a variable.
+    pub(crate) fn times_rows(&mut self, scopes: &Scopes, k: usize, net: &Network, variable: u32)
+        requires store { IsStoreOf scopes.now self.old }
+        requires heads { length self.old.heads.items ≡ length scopes.now }
+        requires table { k < length scopes.now }
+        requires variable { variable < length net.now }
+        requires family { HasSized net.now (scope_in scopes.now k) variable }
+        requires parents { All (HasSized net.now (scope_in scopes.now k)) (variable_at net.now variable).parents }
+        requires room { (j : ℕ) × HaveRoom j (table_in (store_tables scopes.now self.old) k).digits (table_in (store_tables scopes.now self.old) k).exponents 1 }
+        ensures store { IsStoreOf scopes.now self.new }
+        ensures heads { length self.new.heads.items ≡ length scopes.now }
+        ensures tables { store_tables scopes.now self.new ≡ slice_set (store_tables scopes.now self.old) k (with_cells (table_in (store_tables scopes.now self.old) k) (table_in (store_tables scopes.now self.new) k).digits (table_in (store_tables scopes.now self.new) k).exponents) }
+        ensures changed { IsChanged (λ c d e x y. IsTimes d e 0 (share_there net.now variable (values_at (scope_in scopes.now k) c)) 0 x y) (λ c. c < cells_in (scope_in scopes.now k)) (table_in (store_tables scopes.now self.old) k).digits (table_in (store_tables scopes.now self.old) k).exponents (table_in (store_tables scopes.now self.new) k).digits (table_in (store_tables scopes.now self.new) k).exponents }
+    {
+        let scope = scopes.scope(k);
+        let first = self.written(scopes, k);
+        let end = first + scope.cells();
+        times_shares(
+            &mut self.digits[first..end],
+            &mut self.exponents[first..end],
+            scope,
+            net,
+            variable,
+        );
+    }
+
+    /// Makes absent each cell of a table that picks a share of nothing in the rows of a variable.
+    pub(crate) fn times_support(&mut self, scopes: &Scopes, k: usize, net: &Network, variable: u32)
+        requires store { IsStoreOf scopes.now self.old }
+        requires heads { length self.old.heads.items ≡ length scopes.now }
+        requires table { k < length scopes.now }
+        requires variable { variable < length net.now }
+        requires family { HasSized net.now (scope_in scopes.now k) variable }
+        requires parents { All (HasSized net.now (scope_in scopes.now k)) (variable_at net.now variable).parents }
+        requires room { (j : ℕ) × HaveRoom j (table_in (store_tables scopes.now self.old) k).digits (table_in (store_tables scopes.now self.old) k).exponents 1 }
+        ensures store { IsStoreOf scopes.now self.new }
+        ensures heads { length self.new.heads.items ≡ length scopes.now }
+        ensures tables { store_tables scopes.now self.new ≡ slice_set (store_tables scopes.now self.old) k (with_cells (table_in (store_tables scopes.now self.old) k) (table_in (store_tables scopes.now self.new) k).digits (table_in (store_tables scopes.now self.new) k).exponents) }
+        ensures changed { IsChanged (λ c d e x y. IsTimes d e 0 (support_there net.now variable (values_at (scope_in scopes.now k) c)) 0 x y) (λ c. c < cells_in (scope_in scopes.now k)) (table_in (store_tables scopes.now self.old) k).digits (table_in (store_tables scopes.now self.old) k).exponents (table_in (store_tables scopes.now self.new) k).digits (table_in (store_tables scopes.now self.new) k).exponents }
+    {
+        let scope = scopes.scope(k);
+        let first = self.written(scopes, k);
+        let end = first + scope.cells();
+        times_supports(
+            &mut self.digits[first..end],
+            &mut self.exponents[first..end],
+            scope,
+            net,
+            variable,
+        );
+    }
+
+    /// Multiplies chosen cells of a table by a ratio's units for the value that each gives the ratio's variable.
+    pub(crate) fn times_ratio(&mut self, scopes: &Scopes, k: usize, ratio: &Ratio, chosen: &[u16])
+        requires store { IsStoreOf scopes.now self.old }
+        requires heads { length self.old.heads.items ≡ length scopes.now }
+        requires table { k < length scopes.now }
+        requires event { HasEvent (scope_in scopes.now k) (ratio_pairs (trade_ratio ratio.now)) }
+        requires one_each { HasOneEach (scope_in scopes.now k) (trade_ratio ratio.now) }
+        requires chosen { chosen.now ≡ cells_where (scope_in scopes.now k) ratio.now.condition }
+        requires room { (j : ℕ) × HaveRoom j (table_in (store_tables scopes.now self.old) k).digits (table_in (store_tables scopes.now self.old) k).exponents 1 }
+        ensures store { IsStoreOf scopes.now self.new }
+        ensures heads { length self.new.heads.items ≡ length scopes.now }
+        ensures tables { store_tables scopes.now self.new ≡ slice_set (store_tables scopes.now self.old) k (with_cells (table_in (store_tables scopes.now self.old) k) (table_in (store_tables scopes.now self.new) k).digits (table_in (store_tables scopes.now self.new) k).exponents) }
+        ensures changed { IsChanged (λ c d e x y. IsTimes d e 40 (units_of (trade_ratio ratio.now) (values_at (scope_in scopes.now k) c ratio.now.variable)) 0 x y) (IsAmong chosen.now (length chosen.now)) (table_in (store_tables scopes.now self.old) k).digits (table_in (store_tables scopes.now self.old) k).exponents (table_in (store_tables scopes.now self.new) k).digits (table_in (store_tables scopes.now self.new) k).exponents }
+    {
+        let scope = scopes.scope(k);
+        let first = self.written(scopes, k);
+        let end = first + scope.cells();
+        times_units(
+            &mut self.digits[first..end],
+            &mut self.exponents[first..end],
+            scope,
+            ratio,
+            chosen,
+        );
+    }
+
+    /// Makes absent each cell of a table that gives the pair's variable another value.
+    pub(crate) fn restrict(&mut self, scopes: &Scopes, k: usize, pair: Pair)
+        requires store { IsStoreOf scopes.now self.old }
+        requires heads { length self.old.heads.items ≡ length scopes.now }
+        requires table { k < length scopes.now }
+        requires variable { has_variable (scope_in scopes.now k) pair.variable ≡ true }
+        ensures store { IsStoreOf scopes.now self.new }
+        ensures heads { length self.new.heads.items ≡ length scopes.now }
+        ensures tables { store_tables scopes.now self.new ≡ slice_set (store_tables scopes.now self.old) k (with_cells (table_in (store_tables scopes.now self.old) k) (table_in (store_tables scopes.now self.new) k).digits (table_in (store_tables scopes.now self.new) k).exponents) }
+        ensures changed { IsChanged (λ c d e x y. IsRestricted (values_at (scope_in scopes.now k) c pair.variable == pair.value) d e x y) (λ c. c < cells_in (scope_in scopes.now k)) (table_in (store_tables scopes.now self.old) k).digits (table_in (store_tables scopes.now self.old) k).exponents (table_in (store_tables scopes.now self.new) k).digits (table_in (store_tables scopes.now self.new) k).exponents }
+    {
+        let scope = scopes.scope(k);
+        let first = self.written(scopes, k);
+        let end = first + scope.cells();
+        keep_value(
+            &mut self.digits[first..end],
+            &mut self.exponents[first..end],
+            scope,
+            pair,
+        );
+    }
+
+    /// Multiplies each cell of a table by the cell of a message that has its values. A blank message changes nothing.
+    pub(crate) fn times(&mut self, scopes: &Scopes, k: usize, places: &Places, spare: &Spare)
+        requires store { IsStoreOf scopes.now self.old }
+        requires heads { length self.old.heads.items ≡ length scopes.now }
+        requires table { k < length scopes.now }
+        requires places { places.now.whole ≡ scope_in scopes.now k }
+        requires whole { AreBlankOrFull (cells_in places.now.part) spare.now.digits.items spare.now.exponents.items }
+        requires room { (j : ℕ) × HaveRoom j (table_in (store_tables scopes.now self.old) k).digits (table_in (store_tables scopes.now self.old) k).exponents 1 }
+        requires other_room { (j : ℕ) × HaveRoom j (filled one_digits (cells_in places.now.part) spare.now.digits.items) (filled one_exponent (cells_in places.now.part) spare.now.exponents.items) 1 }
+        ensures store { IsStoreOf scopes.now self.new }
+        ensures heads { length self.new.heads.items ≡ length scopes.now }
+        ensures tables { store_tables scopes.now self.new ≡ slice_set (store_tables scopes.now self.old) k
+            (with_cells (table_in (store_tables scopes.now self.old) k) (table_in (store_tables scopes.now self.new) k).digits (table_in (store_tables scopes.now self.new) k).exponents) }
+        ensures changed { IsChanged (λ c d e x y. IsTimesCell d e (slice_index (filled one_digits (cells_in places.now.part) spare.now.digits.items) (cell_in places.now.part places.now.whole c))
+            (slice_index (filled one_exponent (cells_in places.now.part) spare.now.exponents.items) (cell_in places.now.part places.now.whole c)) x y)
+            (λ c. c < cells_in places.now.whole) (table_in (store_tables scopes.now self.old) k).digits (table_in (store_tables scopes.now self.old) k).exponents
+            (table_in (store_tables scopes.now self.new) k).digits (table_in (store_tables scopes.now self.new) k).exponents }
+        ensures lies_in { LiesIn places.now.part places.now.whole }
+    {
+        if spare.digits.len() < places.part_cells() {
+            return;
+        }
+        if !self.is_written(k) {
+            self.spread(scopes, k, places, spare);
+            return;
+        }
+        let first = self.written(scopes, k);
+        let end = first + places.whole_cells();
+        times_cells(
+            &mut self.digits[first..end],
+            &mut self.exponents[first..end],
+            places,
+            &spare.digits,
+            &spare.exponents,
+        );
+    }
+
+    /// Puts into each cell of a table the cell of a message that has its values. A blank message leaves it blank.
+    pub(crate) fn spread(&mut self, scopes: &Scopes, k: usize, places: &Places, spare: &Spare)
+        requires store { IsStoreOf scopes.now self.old }
+        requires heads { length self.old.heads.items ≡ length scopes.now }
+        requires table { k < length scopes.now }
+        requires places { places.now.whole ≡ scope_in scopes.now k }
+        requires whole { AreBlankOrFull (cells_in places.now.part) spare.now.digits.items spare.now.exponents.items }
+        ensures store { IsStoreOf scopes.now self.new }
+        ensures heads { length self.new.heads.items ≡ length scopes.now }
+        ensures tables { store_tables scopes.now self.new ≡ slice_set (store_tables scopes.now self.old) k
+            (with_cells (table_in (store_tables scopes.now self.old) k) (table_in (store_tables scopes.now self.new) k).digits (table_in (store_tables scopes.now self.new) k).exponents) }
+        ensures full { IsFull places.now.whole (table_in (store_tables scopes.now self.new) k).digits (table_in (store_tables scopes.now self.new) k).exponents }
+        ensures digits { (c : ℕ) → c < cells_in places.now.whole → slice_index (table_in (store_tables scopes.now self.new) k).digits c
+            ≡ slice_index (filled one_digits (cells_in places.now.part) spare.now.digits.items) (cell_in places.now.part places.now.whole c) }
+        ensures exponents { (c : ℕ) → c < cells_in places.now.whole → slice_index (table_in (store_tables scopes.now self.new) k).exponents c
+            ≡ slice_index (filled one_exponent (cells_in places.now.part) spare.now.exponents.items) (cell_in places.now.part places.now.whole c) }
+        ensures lies_in { LiesIn places.now.part places.now.whole }
+    {
+        if spare.digits.len() < places.part_cells() {
+            self.blank(scopes, k);
+            return;
+        }
+        let first = self.written(scopes, k);
+        let end = first + places.whole_cells();
+        put_cells(
+            &mut self.digits[first..end],
+            &mut self.exponents[first..end],
+            places.onto(),
+            &spare.digits,
+            &spare.exponents,
+        );
+    }
+
+    /// Takes a ratio to those of a table.
+    #[inline]
+    pub(crate) fn take_ratio(&mut self, scopes: &Scopes, k: usize, condition: Event)
+        requires store { IsStoreOf scopes.now self.old }
+        requires heads { length self.old.heads.items ≡ length scopes.now }
+        requires table { k < length scopes.now }
+        requires event { HasEvent (scope_in scopes.now k) condition }
+        requires small { (head_in self.old.heads.items k).shift < max_shift }
+        ensures store { IsStoreOf scopes.now self.new }
+        ensures tables { store_tables scopes.now self.new ≡ slice_set (store_tables scopes.now self.old) k (with_ratios (table_in (store_tables scopes.now self.old) k)
+            ((head_in self.old.heads.items k).shift + 40) (head_in self.new.heads.items k).touched) }
+        ensures either { IsEither (head_in self.old.heads.items k).touched (Some condition) (head_in self.new.heads.items k).touched }
+    {
+        let head = &mut self.heads[k];
+        head.shift += RATIO_SHIFT;
+        take_either(&mut head.touched, &Some(condition));
+    }
+
+    /// Keeps the ratios of a table beside a pair.
+    #[inline]
+    pub(crate) fn keep_beside(&mut self, scopes: &Scopes, k: usize, pair: Pair)
+        requires store { IsStoreOf scopes.now self.old }
+        requires heads { length self.old.heads.items ≡ length scopes.now }
+        requires table { k < length scopes.now }
+        ensures store { IsStoreOf scopes.now self.new }
+        ensures tables { store_tables scopes.now self.new ≡ slice_set (store_tables scopes.now self.old) k (with_ratios (table_in (store_tables scopes.now self.old) k)
+            ((head_in self.old.heads.items k).shift) (head_in self.new.heads.items k).touched) }
+        ensures beside { IsBeside pair (head_in self.old.heads.items k).touched (head_in self.new.heads.items k).touched }
+    {
+        let head = &mut self.heads[k];
+        head.touched = beside(&head.touched, pair);
+    }
+
+    /// Takes the ratios of a table out.
+    #[inline]
+    pub(crate) fn drop_ratios(&mut self, scopes: &Scopes, k: usize)
+        requires store { IsStoreOf scopes.now self.old }
+        requires heads { length self.old.heads.items ≡ length scopes.now }
+        requires table { k < length scopes.now }
+        ensures store { IsStoreOf scopes.now self.new }
+        ensures tables { store_tables scopes.now self.new ≡ slice_set (store_tables scopes.now self.old) k (with_ratios (table_in (store_tables scopes.now self.old) k)
+            (0) (head_in self.new.heads.items k).touched) }
+        ensures touched { (head_in self.new.heads.items k).touched ≡ None }
+    {
+        let head = &mut self.heads[k];
+        head.shift = 0;
+        head.touched = None;
+    }
+
+    /// Takes the ratios of a message to those of a table.
+    #[inline]
+    pub(crate) fn take_ratios(&mut self, scopes: &Scopes, k: usize, message: usize)
+        requires store { IsStoreOf scopes.now self.old }
+        requires heads { length self.old.heads.items ≡ length scopes.now }
+        requires table { k < length scopes.now }
+        requires message_table { message < length scopes.now }
+        requires lies_in { LiesIn (scope_in scopes.now message) (scope_in scopes.now k) }
+        requires small { (head_in self.old.heads.items k).shift < max_shift }
+        requires small_too { (head_in self.old.heads.items message).shift < max_shift }
+        ensures store { IsStoreOf scopes.now self.new }
+        ensures tables { store_tables scopes.now self.new ≡ slice_set (store_tables scopes.now self.old) k (with_ratios (table_in (store_tables scopes.now self.old) k)
+            ((head_in self.old.heads.items k).shift + (head_in self.old.heads.items message).shift) (head_in self.new.heads.items k).touched) }
+        ensures either { IsEither (head_in self.old.heads.items k).touched (head_in self.old.heads.items message).touched (head_in self.new.heads.items k).touched }
+    {
+        let shift = self.heads[message].shift;
+        let touched = self.heads[message].touched;
+        let head = &mut self.heads[k];
+        head.shift += shift;
+        take_either(&mut head.touched, &touched);
+    }
+
+    /// Puts the ratios of a message into a table.
+    #[inline]
+    pub(crate) fn put_ratios(&mut self, scopes: &Scopes, k: usize, message: usize)
+        requires store { IsStoreOf scopes.now self.old }
+        requires heads { length self.old.heads.items ≡ length scopes.now }
+        requires table { k < length scopes.now }
+        requires message_table { message < length scopes.now }
+        requires lies_in { LiesIn (scope_in scopes.now message) (scope_in scopes.now k) }
+        ensures store { IsStoreOf scopes.now self.new }
+        ensures tables { store_tables scopes.now self.new ≡ slice_set (store_tables scopes.now self.old) k (with_ratios (table_in (store_tables scopes.now self.old) k)
+            ((head_in self.old.heads.items message).shift) (head_in self.new.heads.items k).touched) }
+        ensures touched { (head_in self.new.heads.items k).touched ≡ (head_in self.old.heads.items message).touched }
+    {
+        let shift = self.heads[message].shift;
+        let touched = self.heads[message].touched;
+        let head = &mut self.heads[k];
+        head.shift = shift;
+        head.touched = touched;
+    }
+
+    /// Puts the ratios of a table into one over some of its variables.
+    #[inline]
+    pub(crate) fn put_ratios_within(&mut self, scopes: &Scopes, k: usize, out: usize)
+        requires store { IsStoreOf scopes.now self.old }
+        requires heads { length self.old.heads.items ≡ length scopes.now }
+        requires table { k < length scopes.now }
+        requires out_table { out < length scopes.now }
+        ensures store { IsStoreOf scopes.now self.new }
+        ensures tables { store_tables scopes.now self.new ≡ slice_set (store_tables scopes.now self.old) out (with_ratios (table_in (store_tables scopes.now self.old) out)
+            ((head_in self.old.heads.items k).shift) (head_in self.new.heads.items out).touched) }
+        ensures within { IsWithin (scope_in scopes.now out) (head_in self.old.heads.items k).touched (head_in self.new.heads.items out).touched }
+    {
+        let shift = self.heads[k].shift;
+        let touched = self.heads[k].touched;
+        let head = &mut self.heads[out];
+        head.shift = shift;
+        put_within(&touched, scopes.scope(out), &mut head.touched);
+    }
+
+    /// Takes the ratios of a table to those of one over some of its variables, under the table's shift.
+    #[inline]
+    pub(crate) fn take_ratios_within(&mut self, scopes: &Scopes, k: usize, out: usize)
+        requires store { IsStoreOf scopes.now self.old }
+        requires heads { length self.old.heads.items ≡ length scopes.now }
+        requires table { k < length scopes.now }
+        requires out_table { out < length scopes.now }
+        ensures store { IsStoreOf scopes.now self.new }
+        ensures tables { store_tables scopes.now self.new ≡ slice_set (store_tables scopes.now self.old) out (with_ratios (table_in (store_tables scopes.now self.old) out)
+            ((head_in self.old.heads.items k).shift) (head_in self.new.heads.items out).touched) }
+        ensures within { (within : Option (List Pair)) × IsWithin (scope_in scopes.now out) (head_in self.old.heads.items k).touched within
+            × IsEither (head_in self.old.heads.items out).touched within (head_in self.new.heads.items out).touched }
+    {
+        let shift = self.heads[k].shift;
+        let mut touched = None;
+        put_within(&self.heads[k].touched, scopes.scope(out), &mut touched);
+        let head = &mut self.heads[out];
+        head.shift = shift;
+        take_either(&mut head.touched, &touched);
+    }
+
+    /// Puts the ratios of two tables into one over some of the first one's variables.
+    #[inline]
+    pub(crate) fn put_both_ratios_within(
+        &mut self,
+        scopes: &Scopes,
+        first: usize,
+        second: usize,
+        out: usize,
+    )
+        requires store { IsStoreOf scopes.now self.old }
+        requires heads { length self.old.heads.items ≡ length scopes.now }
+        requires table { first < length scopes.now }
+        requires second_table { second < length scopes.now }
+        requires out_table { out < length scopes.now }
+        requires small { (head_in self.old.heads.items first).shift < max_shift }
+        requires small_too { (head_in self.old.heads.items second).shift < max_shift }
+        ensures store { IsStoreOf scopes.now self.new }
+        ensures tables { store_tables scopes.now self.new ≡ slice_set (store_tables scopes.now self.old) out (with_ratios (table_in (store_tables scopes.now self.old) out)
+            ((head_in self.old.heads.items first).shift + (head_in self.old.heads.items second).shift) (head_in self.new.heads.items out).touched) }
+        ensures within { IsEitherWithin (scope_in scopes.now out) (head_in self.old.heads.items first).touched (head_in self.old.heads.items second).touched
+            (head_in self.new.heads.items out).touched }
+    {
+        let shift = self.heads[first].shift + self.heads[second].shift;
+        let touched = self.heads[first].touched;
+        let others = self.heads[second].touched;
+        let head = &mut self.heads[out];
+        head.shift = shift;
+        put_either_within(&touched, &others, scopes.scope(out), &mut head.touched);
+    }
+
+    /// Makes each cell of a table 1. Its place stays.
+    pub(crate) fn blank(&mut self, scopes: &Scopes, k: usize)
+        requires store { IsStoreOf scopes.now self.old }
+        requires heads { length self.old.heads.items ≡ length scopes.now }
+        requires table { k < length scopes.now }
+        ensures store { IsStoreOf scopes.now self.new }
+        ensures heads { length self.new.heads.items ≡ length scopes.now }
+        ensures tables { store_tables scopes.now self.new ≡ slice_set (store_tables scopes.now self.old) k
+            (with_cells (table_in (store_tables scopes.now self.old) k) (replicate (cells_in (scope_in scopes.now k)) one_digits)
+            (replicate (cells_in (scope_in scopes.now k)) one_exponent)) }
+    {
+        if let Place::Written(first) = self.heads[k].place {
+            self.heads[k].place = Place::Blank(first);
+        }
+    }
+}
+
+impl Spare {
+    /// Takes what is there out.
+    #[inline]
+    pub(crate) fn clear(&mut self)
+        ensures digits { self.new.digits.items ≡ [] }
+        ensures exponents { self.new.exponents.items ≡ [] }
+        ensures digits_room { vec_capacity self.new.digits ≡ vec_capacity self.old.digits }
+        ensures exponents_room { vec_capacity self.new.exponents ≡ vec_capacity self.old.exponents }
+    {
+        self.digits.clear();
+        self.exponents.clear();
+    }
+
+    /// Takes the cells of a table.
+    #[inline]
+    pub(crate) fn take(&mut self, store: &Store, scopes: &Scopes, k: usize)
+        requires store { IsStoreOf scopes.now store.now }
+        requires table { k < length scopes.now }
+        requires digits_fit { cells_in (scope_in scopes.now k) ≤ vec_capacity self.old.digits }
+        requires exponents_fit { cells_in (scope_in scopes.now k) ≤ vec_capacity self.old.exponents }
+        ensures whole { AreBlankOrFull (cells_in (scope_in scopes.now k)) self.new.digits.items self.new.exponents.items }
+        ensures digits { filled one_digits (cells_in (scope_in scopes.now k)) self.new.digits.items ≡ (table_in (store_tables scopes.now store.now) k).digits }
+        ensures exponents { filled one_exponent (cells_in (scope_in scopes.now k)) self.new.exponents.items ≡ (table_in (store_tables scopes.now store.now) k).exponents }
+        ensures digits_room { vec_capacity self.old.digits ≤ vec_capacity self.new.digits }
+        ensures exponents_room { vec_capacity self.old.exponents ≤ vec_capacity self.new.exponents }
+    {
+        let (digits, exponents) = store.cells(scopes, k);
+        copy_over(digits, &mut self.digits);
+        copy_over(exponents, &mut self.exponents);
+    }
+}
+
+/// Writes heads of tables that were not changed.
+#[inline(never)]
+fn put_heads(heads: &mut Vec<Head>, count: usize)
+    requires none { length heads.old.items ≡ 0 }
+    requires room { count ≤ vec_capacity heads.old }
+    ensures heads { heads.new.items ≡ replicate count no_head }
+    ensures room { vec_capacity heads.new ≡ vec_capacity heads.old }
+{
+    for _ in 0..count {
+        heads.push_reserved(Head {
+            place: Place::Nowhere,
+            shift: 0,
+            touched: None,
+        });
+    }
+}
+
+/// Puts one value everywhere.
+fn put_each<T: Copy>(values: &mut [T], value: T)
+    ensures { values.new ≡ replicate (length values.old) value }
+{
+    for place in 0..values.len() {
+        values[place] = value;
+    }
+}
+
+/// Appends an array to another, which has room for it.
+fn append<T: Copy>(values: &mut Vec<T>, more: &[T])
+    requires { vec_len values.old + length more.now ≤ vec_capacity values.old }
+    ensures items { values.new.items ≡ values.old.items ++ more.now }
+    ensures room { vec_capacity values.old ≤ vec_capacity values.new }
+{
+    // It finds room, so it succeeds.
+    let _ = values.extend_from_slice(more);
+}
