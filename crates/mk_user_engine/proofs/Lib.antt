@@ -1,0 +1,12 @@
+pub mod Least
+pub mod Coded
+pub mod Counted
+pub mod Drop
+pub mod Pairs
+pub mod Believing
+pub mod Products
+pub mod Keeping
+pub mod Naming
+pub mod Over
+pub mod Growing
+pub mod Staying

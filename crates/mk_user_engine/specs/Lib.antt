@@ -1,0 +1,4 @@
+pub mod Names
+pub mod Narrow
+pub mod Laws
+pub mod Users

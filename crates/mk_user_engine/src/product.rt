@@ -1,0 +1,135 @@
+//! The product of a list of ratios in each assignment of the named variables.
+
+ghost use Rattle.std.specs.Prelude.{◌≡◌, ℕ, ◌+◌, ◌*◌, ◌<◌, ◌≤◌, ◌&&◌, ◌==◌, true, false, List, All};
+ghost use Rattle.std.specs.Prelude.{length, slice_index, slice_index_or, IfSome, IfNone};
+ghost use Rattle.std.specs.Prelude.{MatchOption};
+ghost use Rattle.std.specs.List.{list_any};
+ghost use Rattle.mk_net.specs.Asked.{IsUnits};
+ghost use Rattle.mk_net.specs.Trades.{trade_ratio};
+ghost use Rattle.mk_states.specs.Ratios.{units_of};
+ghost use Rattle.mk_sums.specs.There.{holds_there};
+ghost use Rattle.mk_cell.specs.Cell.{StandsAt, IsOwnAt};
+ghost use Rattle.mk_user_engine.specs.Names.{value_in, agrees, is_named, CanDivide, max_cells};
+ghost use Rattle.mk_user_engine.specs.Narrow.{IsListed, product_of, is_met, HasProduct};
+ghost use Rattle.mk_user_engine.specs.Narrow.{HaveProducts, max_trades};
+
+use crate::names::{Named, is_named, value_in};
+use crate::narrow::PlacedRatio;
+use mk_cell::Cell;
+use mk_net::{Pair, Ratio};
+
+/// The places of two in a unit.
+pub(crate) const UNIT_PLACES: u32 = 40;
+
+/// Asks for those cells alone that give each named variable of some pairs its value.
+pub(crate) fn keep_pairs(asked: &mut [bool], names: &[Named], pairs: &[Pair])
+    requires names { All CanDivide names.now }
+    requires few { length asked.old ≤ max_cells }
+    ensures long { length asked.new ≡ length asked.old }
+    ensures kept { (c : ℕ) → c < length asked.old
+        → slice_index_or asked.new c false
+        ≡ (slice_index_or asked.old c false && agrees names.now pairs.now c) }
+{
+    for pair in pairs {
+        if is_named(names, pair.variable) {
+            keep_pair(asked, names, *pair);
+        }
+    }
+}
+
+/// Asks for those cells alone that give a variable its pair's value.
+fn keep_pair(asked: &mut [bool], names: &[Named], pair: Pair)
+    requires names { All CanDivide names.now }
+    requires few { length asked.old ≤ max_cells }
+    ensures long { length asked.new ≡ length asked.old }
+    ensures kept { (c : ℕ) → c < length asked.old
+        → slice_index_or asked.new c false
+        ≡ (slice_index_or asked.old c false && value_in names.now c pair.variable == pair.value) }
+{
+    for cell in 0..asked.len() {
+        let has = value_in(names, cell as u32, pair.variable) == pair.value;
+        asked[cell] = asked[cell] && has;
+    }
+}
+
+/// Writes the product of each cell that is asked for, and none elsewhere. Says whether one of them
+/// meets the condition of a ratio.
+pub(crate) fn write_products(
+    asked: &[bool],
+    digits: &mut [u64],
+    exponents: &mut [u32],
+    names: &[Named],
+    trades: &[PlacedRatio],
+) -> bool
+    requires names { All CanDivide names.now }
+    requires trades { All (IsListed names.now) trades.now }
+    requires few_trades { length trades.now ≤ max_trades }
+    requires few { length asked.now ≤ max_cells }
+    requires digits { length digits.old ≡ length asked.now }
+    requires exponents { length exponents.old ≡ length asked.now }
+    ensures { HaveProducts names.now trades.now asked.now digits.new exponents.new result
+        (length asked.now) }
+{
+    let mut met = false;
+    for cell in 0..asked.len() {
+        let mut product = Cell::ABSENT;
+        if asked[cell] {
+            let made = product_at(names, trades, cell as u32);
+            product = made.0;
+            met = met || made.1;
+        }
+        digits[cell] = product.digits;
+        exponents[cell] = product.exponent;
+    }
+    met
+}
+
+/// The product of all ratios in a cell, and whether it meets the condition of one.
+fn product_at(names: &[Named], trades: &[PlacedRatio], cell: u32) -> (Cell, bool)
+    requires names { All CanDivide names.now }
+    requires trades { All (IsListed names.now) trades.now }
+    requires few_trades { length trades.now ≤ max_trades }
+    ensures { HasProduct names.now trades.now cell (result.0).digits (result.0).exponent
+        (result.1) }
+{
+    let mut product = Cell::of_whole(1, 0);
+    let mut met = false;
+    for placed in trades {
+        if let Some(units) = units_in(names, &placed.ratio, cell) {
+            product = product.times(Cell::of_whole(units, UNIT_PLACES));
+            met = true;
+        }
+    }
+    (product, met)
+}
+
+/// The units of a ratio in a cell, where it meets the condition.
+fn units_in(names: &[Named], ratio: &Ratio, cell: u32) -> Option<u64>
+    requires names { All CanDivide names.now }
+    requires value { value_in names.now cell ratio.now.variable < length ratio.now.factors.items }
+    ensures met { IfSome result
+        (λ units. holds_there ratio.now.condition (value_in names.now cell) ≡ true) }
+    ensures units { IfSome result (λ units. units
+        ≡ units_of (trade_ratio ratio.now) (value_in names.now cell ratio.now.variable)) }
+    ensures left { IfNone result
+        (holds_there ratio.now.condition (value_in names.now cell) ≡ false) }
+{
+    if !holds_in(names, ratio.condition.pairs(), cell) {
+        return None;
+    }
+    let value = value_in(names, cell, ratio.variable);
+    Some(ratio.factors[value as usize])
+}
+
+/// Whether a cell has the value of each pair.
+fn holds_in(names: &[Named], pairs: &[Pair], cell: u32) -> bool
+    requires { All CanDivide names.now }
+    ensures { result ≡ holds_there pairs.now (value_in names.now cell) }
+{
+    for pair in pairs {
+        if value_in(names, cell, pair.variable) != pair.value {
+            return false;
+        }
+    }
+    true
+}
