@@ -45,30 +45,43 @@ pub(crate) fn judge_limits_reply<P: TreeGraded<SumProd>, A: TreeGraded<MinProd>>
     }
 }
 
+/// What an `edit` asks beside its user.
+#[derive(Clone, Copy)]
+pub(crate) struct AskedEdit<'a> {
+    pub(crate) question: &'a QuestionText,
+    pub(crate) to: u32,
+    pub(crate) at: Option<u32>,
+}
+
 /// Judges a reply to `edit`, by the limits that were printed to the user last where they are of
 /// this question and of the present revision.
 pub(crate) fn judge_edit_reply<P: TreeGraded<SumProd>, A: TreeGraded<MinProd>>(
     market: &mut Market<P, A>,
     known: &Known,
     name: &Name,
-    question: &QuestionText,
-    to: u32,
-    at: Option<u32>,
+    asked: AskedEdit,
     reply: &Reply,
 ) -> Judged
     requires known { IsKnown market.old.market (market.old.standing).history known.now }
     ensures same { market.new ≡ market.old }
     ensures judged { Stands market.old.market (market.old.standing).history → Judges result
         (IsAllowed market.old.market (market.old.standing).history known.now.quotes
-        (Edit name.now question.now to at) reply.now)
+        (Edit name.now asked.entry.question.now asked.entry.to asked.entry.at) reply.now)
         (IsOpen market.old.market (market.old.standing).history known.now.quotes
-        (Edit name.now question.now to at) reply.now) }
+        (Edit name.now asked.entry.question.now asked.entry.to asked.entry.at) reply.now) }
 {
-    match edit_evidence(market, name, question, to, at) {
+    match edit_evidence(market, name, asked.question, asked.to, asked.at) {
         Ok(evidence) => {
             let now = revision_of(market);
             let quoted = known.limits_for(evidence.user, &evidence.question, now);
-            judge_edit(&evidence.bounds, known.is_small(), now, quoted, to, reply)
+            judge_edit(
+                &evidence.bounds,
+                known.is_small(),
+                now,
+                quoted,
+                asked.to,
+                reply,
+            )
         }
         Err(why) => judge_refused(&why, reply),
     }

@@ -9,13 +9,13 @@ ghost use Rattle.mk_judge.specs.Judged.{Judges};
 ghost use Rattle.mk_verify.specs.Clear.{IsOpen};
 ghost use Rattle.mk_verify.specs.Known.{IsKnown};
 
-use crate::editing::{judge_edit_reply, judge_limits_reply};
+use crate::editing::{AskedEdit, judge_edit_reply, judge_limits_reply};
 use crate::known::Known;
 use crate::numbers::{judge_bound_reply, judge_price_reply, judge_withdrawal, judge_worst_reply};
 use crate::numbers_of_values::{judge_position, judge_prices};
 use crate::plain::{judge_addition, judge_deposit, judge_join, judge_resolution, judge_status};
 use crate::settlement::judge_settlement;
-use crate::spreading::{judge_bounds_reply, judge_spread_reply};
+use crate::spreading::{AskedSpread, judge_bounds_reply, judge_spread_reply};
 use mk_command::CommandRef;
 use mk_engine::TreeGraded;
 use mk_judge::Judged;
@@ -57,7 +57,14 @@ pub fn judge<P: TreeGraded<SumProd>, A: TreeGraded<MinProd>>(
             question,
             to,
             at,
-        } => judge_edit_reply(market, known, user, question, *to, *at, reply),
+        } => {
+            let asked = AskedEdit {
+                question,
+                to: *to,
+                at: *at,
+            };
+            judge_edit_reply(market, known, user, asked, reply)
+        }
         CommandRef::Worst { user } => judge_worst_reply(market, small, user, reply),
         CommandRef::Resolve { pair } => judge_resolution(market, pair, reply),
         CommandRef::Settle => judge_settlement(market, small, reply),
@@ -103,7 +110,15 @@ fn judge_of_values<P: TreeGraded<SumProd>, A: TreeGraded<MinProd>>(
             condition,
             to,
             at,
-        } => judge_spread_reply(market, known, user, variable, condition, to, *at, reply),
+        } => {
+            let asked = AskedSpread {
+                variable,
+                condition,
+                to,
+                at: *at,
+            };
+            judge_spread_reply(market, known, user, asked, reply)
+        }
         CommandRef::Prices {
             variable,
             condition,

@@ -47,27 +47,40 @@ pub(crate) fn judge_bounds_reply<P: TreeGraded<SumProd>, A: TreeGraded<MinProd>>
     }
 }
 
+/// What a `spread` asks beside its user.
+#[derive(Clone, Copy)]
+pub(crate) struct AskedSpread<'a> {
+    pub(crate) variable: &'a Name,
+    pub(crate) condition: &'a ArrayVec<PairText, 8>,
+    pub(crate) to: &'a ArrayVec<u32, 16>,
+    pub(crate) at: Option<u32>,
+}
+
 /// Judges a reply to `spread`, by the bounds that were printed to the user last where they are of
 /// this variable and condition and of the present revision.
 pub(crate) fn judge_spread_reply<P: TreeGraded<SumProd>, A: TreeGraded<MinProd>>(
     market: &mut Market<P, A>,
     known: &Known,
     name: &Name,
-    variable: &Name,
-    condition: &ArrayVec<PairText, 8>,
-    to: &ArrayVec<u32, 16>,
-    at: Option<u32>,
+    asked: AskedSpread,
     reply: &Reply,
 ) -> Judged
     requires known { IsKnown market.old.market (market.old.standing).history known.now }
     ensures same { market.new ≡ market.old }
     ensures judged { Stands market.old.market (market.old.standing).history → Judges result
         (IsAllowed market.old.market (market.old.standing).history known.now.quotes
-        (Spread name.now variable.now condition.now to.now at) reply.now)
+        (Spread name.now asked.entry.variable.now asked.entry.condition.now asked.entry.to.now asked.entry.at) reply.now)
         (IsOpen market.old.market (market.old.standing).history known.now.quotes
-        (Spread name.now variable.now condition.now to.now at) reply.now) }
+        (Spread name.now asked.entry.variable.now asked.entry.condition.now asked.entry.to.now asked.entry.at) reply.now) }
 {
-    match spread_evidence(market, name, variable, condition, to, at) {
+    match spread_evidence(
+        market,
+        name,
+        asked.variable,
+        asked.condition,
+        asked.to,
+        asked.at,
+    ) {
         Ok(evidence) => {
             let now = revision_of(market);
             let quoted = known.bounds_for(evidence.user, &evidence.question, now);
@@ -76,7 +89,7 @@ pub(crate) fn judge_spread_reply<P: TreeGraded<SumProd>, A: TreeGraded<MinProd>>
                 known.is_small(),
                 now,
                 quoted,
-                to.as_slice(),
+                asked.to.as_slice(),
                 reply,
             )
         }
