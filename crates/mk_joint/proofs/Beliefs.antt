@@ -18,8 +18,8 @@ use Rattle.mk_sums.specs.There.{holds_there}
 use Rattle.mk_sums.proofs.Bounds.{sum_grows}
 use Rattle.mk_sums.proofs.States.{is_plus, plus_below_numbers}
 use Rattle.mk_sums.proofs.Grades.{sums_lawful}
-use Rattle.mk_table.specs.Scopes.{ScopeOf, HasEvent, cells_in, has_variable}
-use Rattle.mk_table.specs.Cells.{values_at, cells_where}
+use Rattle.mk_scope.specs.Scopes.{ScopeOf, HasEvent, cells_in, has_variable}
+use Rattle.mk_scope.specs.Cells.{values_at, cells_where}
 use Rattle.mk_table.specs.Tables.{TableOf, HasNumbers, is_untouched}
 use Rattle.mk_table.proofs.Owned.{own_more}
 use Rattle.mk_table.proofs.RatiosKept.{untouched_by}
@@ -27,7 +27,7 @@ use Rattle.mk_engine.specs.Meaning.{Meaning, factor_there, exact_belief, whole_s
 use Rattle.mk_engine.specs.Beliefs.{IsBelief}
 use Rattle.mk_engine.specs.Apart.{IsApart, without_ratios}
 use Rattle.mk_engine.proofs.Apart.{apart_at_most}
-use Rattle.mk_joint.specs.inner.Joints.{whole_scope, joint_there, HasJoint}
+use Rattle.mk_joint.specs.inner.Joints.{whole_scope, joint_there, IsJoint}
 use Rattle.mk_joint.proofs.Cells.{states_are_cells}
 use Rattle.mk_joint.proofs.Factors.{product_there, joint_at_most, whole_is}
 
@@ -93,7 +93,7 @@ module _ (m : Meaning) (event : List Pair) where
       omega (arith, p, q)
 
 -- the total of a table that has a joint
-module _ (plus : ℕ → ℕ → ℕ) (table : TableOf) (count : ℕ) (m : Meaning) (event : List Pair) (h : HasJoint table count m) where
+module _ (plus : ℕ → ℕ → ℕ) (table : TableOf) (count : ℕ) (m : Meaning) (event : List Pair) (h : IsJoint table count m) where
   abbrev pub totalled : ℕ
   totalled = plus_over plus 0 (λ c. joint_there m (values_at table.scope c)) (cells_where table.scope event)
 

@@ -16,10 +16,10 @@ use Rattle.mk_sums.specs.Cells.{keep, cells, place}
 use Rattle.mk_sums.specs.Joint.{variables}
 use Rattle.mk_sums.proofs.States.{states_nest}
 use Rattle.mk_sums.proofs.Tables.{cells_nest}
-use Rattle.mk_table.specs.Scopes.{ScopeOf, size_in, cells_in, scope_of, has_variable, HasSized}
-use Rattle.mk_table.specs.Cells.{values_at}
-use Rattle.mk_table.proofs.Members.{size_of_map}
-use Rattle.mk_table.proofs.Values.{cells_same, place_same}
+use Rattle.mk_scope.specs.Scopes.{ScopeOf, size_in, cells_in, scope_of, has_variable, HasSized}
+use Rattle.mk_scope.specs.Cells.{values_at}
+use Rattle.mk_scope.proofs.Members.{size_of_map}
+use Rattle.mk_scope.proofs.Values.{cells_same, place_same}
 use Rattle.mk_joint.specs.inner.Joints.{whole_scope, joint_states}
 
 listed_range : (a n x : ℕ) → a ≤ x → x < a + n → listed (range_with_len a n) x ≡ true

@@ -11,8 +11,8 @@ use Rattle.mk_states.proofs.Shares.{parents_within}
 use Rattle.mk_sums.specs.Sums.{plus_below}
 use Rattle.mk_sums.specs.There.{holds_there}
 use Rattle.mk_sums.proofs.Grades.{sums_lawful}
-use Rattle.mk_table.specs.Scopes.{cells_in, HasSized}
-use Rattle.mk_table.specs.Cells.{values_at}
+use Rattle.mk_scope.specs.Scopes.{cells_in, HasSized}
+use Rattle.mk_scope.specs.Cells.{values_at}
 use Rattle.mk_engine.specs.Meaning.{Meaning, Factor, with_factor, with_known, factor_there, whole_sum}
 use Rattle.mk_joint.specs.inner.Joints.{whole_scope, joint_there}
 use Rattle.mk_joint.proofs.Cells.{states_are_cells, has_sized}

@@ -1,9 +1,9 @@
 -- What the calls of a table do to the joint that it has.
-use Rattle.std.proofs.Common.{◌≡◌, ℕ, ◌+◌, ◌*◌, ◌<◌, ◌≤◌, ◌==◌, Bool, true, false, cond, if◌then◌else◌, List, [], ◌∷◌, ◌++◌, count_by, length, slice_index, slice_index_or, All, refl, sym, ap, subst, ◌∙◌, arith}
+use Rattle.std.proofs.Common.{◌≡◌, ℕ, ◌+◌, ◌*◌, ◌<◌, ◌≤◌, ◌==◌, Bool, true, false, cond, if◌then◌else◌, List, [], ◌∷◌, ◌++◌, count_by, length, set, slice_index, slice_index_or, All, refl, sym, ap, subst, ◌∙◌, arith}
 use Rattle.std.specs.Prelude.{Some, None}
 use Rattle.std.specs.List.{AllByRecursion}
 use Rattle.std.proofs.Math.Path.{fun_ext}
-use Rattle.std.proofs.lemmas.List.{length_push}
+use Rattle.std.proofs.lemmas.List.{length_push, length-set}
 use Rattle.std.proofs.lemmas.List.Elements.{All-push, All-weaker, All-from_recursion, recursion_from_All, All-nil}
 use Rattle.std.proofs.lemmas.List.Sums.{sum_by_push}
 use Rattle.mk_net.specs.declared.words.Pair.{Pair}
@@ -16,14 +16,15 @@ use Rattle.mk_states.proofs.Sums.{each_weaker}
 use Rattle.mk_states.proofs.Listed.{as_many}
 use Rattle.mk_states.proofs.Shares.{size_at}
 use Rattle.mk_tree.specs.Given.{GivenTree}
-use Rattle.mk_table.specs.Scopes.{ScopeOf, cells_in, has_variable, HasEvent, HasOneEach, HasSized}
-use Rattle.mk_table.specs.Cells.{values_at}
+use Rattle.mk_scope.specs.Scopes.{ScopeOf, cells_in, has_variable, HasEvent, HasOneEach, HasSized}
+use Rattle.mk_scope.specs.Cells.{values_at}
 use Rattle.mk_table.specs.Tables.{TableOf, HasNumbers, HasRoom}
 use Rattle.mk_table.specs.Ratios.{KeepsPairs, HasRatios}
+use Rattle.mk_table.specs.Lists.{IsOnes, no_scope, table_in}
 use Rattle.mk_table.proofs.RatiosKept.{no_ratios, same_ratios, ratios_restricted, one_ratio_more}
 use Rattle.mk_engine.specs.Meaning.{Meaning, Factor, RatioOf, opening, with_factor, with_known, factor_there, is_ratio, max_factors, ArePairsOf}
 use Rattle.mk_engine.specs.Apart.{HasCondition}
-use Rattle.mk_joint.specs.inner.Joints.{whole_scope, joint_there, IsFactorOf, IsPlanFor, IsCommon, HasJoint}
+use Rattle.mk_joint.specs.inner.Joints.{whole_scope, joint_there, IsFactorOf, IsPlanFor, IsCommon, IsJoint, HasJoint}
 use Rattle.mk_joint.proofs.Cells.{has_all, has_sized, states_counted}
 use Rattle.mk_joint.proofs.Factors.{sized_parents, joint_more, joint_known}
 
@@ -70,7 +71,7 @@ pub has_one_each : (network : List Variable) (scope : ScopeOf) → scope ≡ who
 has_one_each network scope e ratio h = h.one_each ∙ sym (sized_in network scope e ratio.variable h.variable).sized
 
 -- a table that has a joint has room for a belief
-pub has_room : (table : TableOf) (count : ℕ) (m : Meaning) → HasJoint table count m → (more : ℕ) → more ≤ 2 * max_clique_cells → HasRoom table more
+pub has_room : (table : TableOf) (count : ℕ) (m : Meaning) → IsJoint table count m → (more : ℕ) → more ≤ 2 * max_clique_cells → HasRoom table more
 has_room table count m h more l = record {
   numbers = λ c. joint_there m (values_at table.scope c);
   steps = length m.factors;
@@ -80,25 +81,50 @@ has_room table count m h more l = record {
 }
 
 -- a table of ones has the joint of no factors
-pub begins : (table : TableOf) (plan : ScopeOf) (network : List Variable) (tree : GivenTree) → IsPlanFor plan network → table.scope ≡ plan → table.shift ≡ 0
-    → HasNumbers table (λ c. 1) 0 → table.touched ≡ None → HasJoint table 0 (opening network tree)
-begins table plan network tree p scope shift ones touched = record {
+ones_joint : (table : TableOf) (plan : List ScopeOf) (network : List Variable) (tree : GivenTree)
+    → IsPlanFor plan network → IsOnes (whole_scope network) table
+    → IsJoint table 0 (opening network tree)
+ones_joint table plan network tree p made = record {
   legal = p.legal;
-  scope = scope ∙ p.scope;
-  few_cells = let e = ap cells_in (scope ∙ p.scope) in omega (arith, e, states_counted network, p.few_states);
+  scope = made.scope_is;
+  few_cells = let e = ap cells_in made.scope_is in omega (arith, e, states_counted network, p.few_states);
   factors = All-nil (IsFactorOf network);
   known = All-nil (IsPairOf network);
   counted = refl;
-  room = record { few_factors = omega arith; small_shift = omega arith };
-  numbers = ones;
-  ratios = no_ratios table (IsCommon (opening network tree)) shift touched;
+  room = record { few_factors = omega arith; small_shift = omega (arith, made.no_shift) };
+  numbers = made.ones;
+  ratios = no_ratios table (IsCommon (opening network tree)) made.no_shift made.no_ratio;
 }
 
+-- so has the table of ones over the scope of a plan
+pub begins : (tables : List TableOf) (plan : List ScopeOf) (network : List Variable) (tree : GivenTree)
+    → IsPlanFor plan network → length tables ≡ length plan
+    → ((k : ℕ) → k < length plan → IsOnes (slice_index_or plan k no_scope) (table_in tables k))
+    → HasJoint tables 0 (opening network tree)
+begins tables plan network tree p one_each made = record {
+  one = one_each ∙ many;
+  joint = ones_joint (table_in tables 0) plan network tree p ones;
+}
+  where
+    many : length plan ≡ 1
+    many = ap (λ (ss : List ScopeOf). length ss) p.scope
+
+    ones : IsOnes (whole_scope network) (table_in tables 0)
+    ones =
+        subst (λ (s : ScopeOf). IsOnes s (table_in tables 0))
+        (ap (λ (ss : List ScopeOf). slice_index_or ss 0 no_scope) p.scope)
+        (made 0 (omega (arith, many)))
+
+-- a table that changes is still the only one
+pub still_one : (old new : List TableOf) (t : TableOf)
+    → length old ≡ 1 → new ≡ set old 0 t → length new ≡ 1
+still_one old new t one only = ap (λ (ts : List TableOf). length ts) only ∙ length-set old 0 t ∙ one
+
 -- a factor more, at each meaning of the table
-pub factor_more : (old new : TableOf) (count : ℕ) (m : Meaning) (f : Factor) → HasJoint old count m → IsFactorOf m.network f → count < max_factors
+pub factor_more : (old new : TableOf) (count : ℕ) (m : Meaning) (f : Factor) → IsJoint old count m → IsFactorOf m.network f → count < max_factors
     → new.scope ≡ old.scope → new.shift ≤ old.shift + 40
     → HasNumbers new (λ c. joint_there m (values_at old.scope c) * factor_there m.network f (values_at old.scope c)) (length m.factors + 1)
-    → (HasRatios old (count_by is_ratio m.factors) (IsCommon m) → HasRatios new (count_by is_ratio (with_factor f m).factors) (IsCommon (with_factor f m))) → HasJoint new (count + 1) (with_factor f m)
+    → (HasRatios old (count_by is_ratio m.factors) (IsCommon m) → HasRatios new (count_by is_ratio (with_factor f m).factors) (IsCommon (with_factor f m))) → IsJoint new (count + 1) (with_factor f m)
 factor_more old new count m f h fits few scope shift numbers ratios = record {
   legal = h.legal;
   scope = scope ∙ h.scope;
@@ -143,10 +169,10 @@ ratio_more m ratio old new scope shift touched had =
     (let n = counted_with m (RatioOf ratio) in omega (arith, n)) (IsCommon (with_factor (RatioOf ratio) m)) (common_before m (RatioOf ratio)) (λ pair h. (all_parted m (RatioOf ratio) pair h).1)
 
 -- a known pair more
-pub known_more : (old new : TableOf) (count : ℕ) (m : Meaning) (p : Pair) → HasJoint old count m → IsPairOf m.network p
+pub known_more : (old new : TableOf) (count : ℕ) (m : Meaning) (p : Pair) → IsJoint old count m → IsPairOf m.network p
     → new.scope ≡ old.scope → new.shift ≡ old.shift
     → HasNumbers new (λ c. if values_at old.scope c p.variable == p.value then joint_there m (values_at old.scope c) else 0) (length m.factors)
-    → KeepsPairs old.scope old.touched None new.touched → HasJoint new count (with_known p m)
+    → KeepsPairs old.scope old.touched None new.touched → IsJoint new count (with_known p m)
 known_more old new count m p h fits scope shift numbers touched = record {
   legal = h.legal;
   scope = scope ∙ h.scope;

@@ -11,14 +11,18 @@ ghost use Rattle.mk_joint.specs.inner.Joints.{HasJoint, IsPlanFor, joint_states}
 
 use mk_engine::Engine;
 use mk_net::{Event, Network, NoMemory, Pair, Ratio, VarSet};
+use mk_scope::{CellList, Scope};
 use mk_semiring::Semiring;
-use mk_table::{CellList, Scope, Table};
+use mk_table::{Scopes, Tables};
 use mk_tree::Tree;
 use std::alloc::Global;
 use std::rc::Rc;
 
 /// The most cells of a clique. A belief costs at most three steps for each.
 const MAX_CELLS: u32 = 4_096;
+
+/// The number of the one table.
+const WHOLE: usize = 0;
 
 /// An engine with one cell for each joint state of a network. It suits networks of no more joint states than a
 /// clique may have cells, 4,096, and can answer each event.
@@ -27,19 +31,19 @@ const MAX_CELLS: u32 = 4_096;
 /// in which the cells of an event are numbered, so that no belief has to clear one.
 #[derive(Drop)]
 pub struct JointEngine<R: Semiring> {
-    table: Table<R>,
+    tables: Tables<R>,
     factors: u32,
     chosen: CellList,
 }
 
 impl<R: Semiring> Engine<R> for JointEngine<R> {
-    type Plan = Rc<Scope>;
+    type Plan = Rc<Scopes>;
 
     ghost suits = { λ network tree. joint_states network ≤ max_clique_cells };
 
     ghost plan_for = { λ plan network tree. IsPlanFor plan.value network };
 
-    ghost stands_for = { λ engine m. HasJoint engine.table engine.factors m };
+    ghost stands_for = { λ engine m. HasJoint engine.tables engine.factors m };
 
     ghost answers_at = { λ engine at event. ⊤ };
 
@@ -47,41 +51,42 @@ impl<R: Semiring> Engine<R> for JointEngine<R> {
 
     ghost grade_of = { λ m. length m.factors + max_clique_cells };
 
-    fn plan(alloc: Global, net: &Network, _tree: &Tree) -> Result<Rc<Scope>, NoMemory>
+    fn plan(alloc: Global, net: &Network, _tree: &Tree) -> Result<Rc<Scopes>, NoMemory>
         requires { joint_states net.now ≤ max_clique_cells }
         ensures { IfOk result (λ plan. IsPlanFor plan.value net.now) }
     {
         let all = all_variables(net);
         let scope = Scope::of(alloc, net, &all)?;
-        Ok(Rc::new(alloc, scope)?)
+        let scopes = vec![in alloc; Rc::new(alloc, scope)?]?;
+        Ok(Rc::new(alloc, Scopes::of(scopes))?)
     }
 
-    fn start(alloc: Global, plan: &Rc<Scope>) -> Result<JointEngine<R>, NoMemory> {
-        let table = Table::ones(alloc, plan)?;
+    fn start(alloc: Global, plan: &Rc<Scopes>) -> Result<JointEngine<R>, NoMemory> {
+        let tables = Tables::ones(alloc, plan)?;
         Ok(JointEngine {
-            table,
+            tables,
             factors: 0,
             chosen: CellList::new(),
         })
     }
 
     fn weigh(&mut self, net: &Network, variable: u32) {
-        self.table.times_rows(net, variable);
+        self.tables.times_rows(WHOLE, net, variable);
         self.factors += 1;
     }
 
     fn support(&mut self, net: &Network, variable: u32) {
-        self.table.times_support(net, variable);
+        self.tables.times_support(WHOLE, net, variable);
         self.factors += 1;
     }
 
     fn multiply(&mut self, _home: u32, ratio: &Ratio) {
-        self.table.times_ratio(ratio, &mut self.chosen);
+        self.tables.times_ratio(WHOLE, ratio, &mut self.chosen);
         self.factors += 1;
     }
 
     fn know(&mut self, _home: u32, pair: Pair) {
-        self.table.restrict(pair);
+        self.tables.restrict(WHOLE, pair);
     }
 
     fn belief(&mut self, _at: u32, event: &Event) -> R::Value
@@ -93,11 +98,11 @@ impl<R: Semiring> Engine<R> for JointEngine<R> {
             → IsBelief R.encloses R.has_grade R.is_exact R.plus_of m event.now result }
         ensures grade { (m : Meaning) → ⟦<JointEngine<R> as Engine<R>>⟧.stands_for self.old m → R.has_grade result (length m.factors + max_clique_cells) }
     {
-        let total = self.table.total(event, &mut self.chosen);
-        let untouched = self.table.is_untouched(event);
+        let total = self.tables.total(WHOLE, event, &mut self.chosen);
+        let untouched = self.tables.is_untouched(WHOLE, event);
         R::of_cell(
             total,
-            self.table.shift(),
+            self.tables.shift(WHOLE),
             untouched,
             self.factors + MAX_CELLS,
         )

@@ -17,12 +17,12 @@ use Rattle.mk_sums.specs.There.{holds_there}
 use Rattle.mk_sums.proofs.Sums.{over-times, over-union, over_agree}
 use Rattle.mk_sums.specs.Trees.{linked_to, times_of}
 use Rattle.mk_sums.proofs.Sets.{times_agree}
-use Rattle.mk_table.specs.Scopes.{ScopeOf, PlacesOf, cells_in, has_variable, HasEvent}
-use Rattle.mk_table.specs.Cells.{values_at, cell_in, cells_where}
+use Rattle.mk_scope.specs.Scopes.{ScopeOf, PlacesOf, cells_in, has_variable, HasEvent}
+use Rattle.mk_scope.specs.Cells.{values_at, cell_in, cells_where}
 use Rattle.mk_table.specs.Tables.{TableOf, HasRoom, is_untouched}
 use Rattle.mk_table.specs.Ratios.{keeps, HasRatios}
 use Rattle.mk_table.proofs.RatiosKept.{all_kept, untouched_by}
-use Rattle.mk_table.proofs.Chosen.{chosen_pass}
+use Rattle.mk_scope.proofs.Chosen.{chosen_pass}
 use Rattle.mk_table.proofs.Owned.{plus_scaled}
 use Rattle.mk_tree.proofs.Cells.{cells_positive}
 use Rattle.mk_tree.specs.Given.{GivenTree, clique_at, holds, link_of, holds_event}

@@ -8,8 +8,8 @@ use Rattle.mk_net.specs.Network.{Variable, sizes}
 use Rattle.mk_net.specs.Named.{variable_at}
 use Rattle.mk_net.specs.Asked.{TradeRatio, ratio_pairs}
 use Rattle.mk_states.specs.Lawful.{Lawful}
-use Rattle.mk_table.specs.Scopes.{cells_in, has_variable, HasEvent, HasOneEach, HasSized}
-use Rattle.mk_table.specs.Cells.{values_at}
+use Rattle.mk_scope.specs.Scopes.{cells_in, has_variable, HasEvent, HasOneEach, HasSized}
+use Rattle.mk_scope.specs.Cells.{values_at}
 use Rattle.mk_table.specs.Tables.{TableOf, HasNumbers, HasRoom}
 use Rattle.mk_table.specs.Ratios.{KeepsPairs, HasRatios}
 use Rattle.mk_table.proofs.RatiosKept.{same_ratios, one_ratio_more}
@@ -19,8 +19,10 @@ use Rattle.mk_propagate.specs.declared.gathered.Gathered.{Gathered}
 use Rattle.mk_propagate.specs.declared.gathered.Gathered.TheVariants.{Nothing}
 use Rattle.mk_propagate.specs.Shapes.{ShapeOf, IsShapeFor, IsClique, clique_scope, scope_within, no_scope}
 use Rattle.mk_propagate.specs.Placings.{Placing, with_factor_in, with_pair_in, placed_there, factors_in, ratios_in, IsPlacedFactor, IsPlacedPair, IsCommon}
-use Rattle.mk_propagate.specs.Flows.{FlowOf, table_at, no_table, HasCells, HasSums, HasPlaced, Places}
+use Rattle.mk_propagate.specs.Flows.{FlowOf, table_at, no_table, HasCells, HasSums, HasPlaced, KeepsMessages, Places}
 use Rattle.mk_propagate.specs.inner.Gathered.{IsFollowed, IsPlacedIn}
+use Rattle.mk_propagate.specs.inner.Boards.{BoardOf, HasClique, table_of, with_table as put_table}
+use Rattle.mk_propagate.proofs.Boards.{read_there}
 use Rattle.mk_propagate.specs.inner.Kept.{IsKept, IsGathered, AreMarked, AreOverCores, IsFlow}
 use Rattle.mk_propagate.proofs.Ratios.{no_ratio_here, ratio_here, common_before, common_to_it}
 use Rattle.mk_propagate.proofs.Placed.{AreOthersKept, with_table, table_read, factor_placed, pair_placed, kept_with}
@@ -29,13 +31,38 @@ use Rattle.mk_propagate.proofs.Sending.{core_is, core_put, cores_still, mark_is,
 use Rattle.mk_propagate.proofs.Placed as placed
 use Rattle.mk_propagate.proofs.Required as required
 
+-- a flow over another board
+abbrev pub flow_on : FlowOf → BoardOf → List Bool → ℕ → FlowOf
+flow_on old board summed factors = record {
+  shape = old.shape;
+  tables = board.tables;
+  cores = board.cores;
+  summed = summed;
+  upward = board.upward;
+  downward = board.downward;
+  factors = factors;
+  computed = old.computed;
+}
+
+pub kept_messages : (old now after : FlowOf) → old ≡ now → after.shape ≡ old.shape → after.upward ≡ old.upward → after.downward ≡ old.downward → after.computed ≡ old.computed → KeepsMessages now after
+kept_messages old now after view s u d n =
+    subst (λ (f : FlowOf). KeepsMessages f after) view (record { same_shape = s; same_upward = u; same_downward = d; same_count = n })
+
+-- what was read of a table that was put there
+pub put_there : (before after : BoardOf) (k : ℕ) → after ≡ put_table before k (table_of after k)
+    → table_of after k ≡ slice_index_or (slice_set before.tables (k - 1) (table_of after k)) (k - 1) (table_of after k)
+put_there before after k only = read_there after.tables (k - 1) ∙ ap (λ (b : BoardOf). slice_index_or b.tables (k - 1) (table_of after k)) only
+
 module _ (plus : ℕ → ℕ → ℕ) (old now : FlowOf) (view : old ≡ now) (products : List TableOf) (cells : ℕ) (kept : IsKept old products cells)
     (p : Placing) (h : HasPlaced plus now p) (clique : ℕ) (is : IsClique now.shape.tree clique) (read : TableOf) (value : read ≡ get_or old.tables (clique - 1) read) where
   placed_old : HasPlaced plus old p
   placed_old = subst (λ (o : FlowOf). HasPlaced plus o p) (sym view) h
 
-  clique_old : IsClique old.shape.tree clique
+  pub clique_old : IsClique old.shape.tree clique
   clique_old = subst (λ (o : FlowOf). IsClique o.shape.tree clique) (sym view) is
+
+  pub clique_there : (board : BoardOf) → board.tables ≡ old.tables → HasClique board clique
+  clique_there board same = let at = clique_old in let e = ap (λ (ts : List TableOf). length ts) same in record { first = at.first; last = omega (arith, at.last, kept.one_each, e) }
 
   within : clique - 1 < length old.tables
   within = let at = clique_old in omega (arith, at.first, at.last, kept.one_each)

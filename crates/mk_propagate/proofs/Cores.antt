@@ -10,7 +10,7 @@ use Rattle.mk_net.specs.Sets.{is_member, no_variables}
 use Rattle.mk_net.specs.Network.{Variable, IsNetwork}
 use Rattle.mk_sums.specs.Trees.{linked, linked_to}
 use Rattle.mk_sums.proofs.Hops.{AreLinked, are_linked, linked_back, linked_from, ends}
-use Rattle.mk_table.specs.Scopes.{cells_in, scope_of, LiesIn}
+use Rattle.mk_scope.specs.Scopes.{cells_in, scope_of, LiesIn}
 use Rattle.mk_tree.specs.Given.{GivenTree, clique_at, holds, link_of}
 use Rattle.mk_tree.specs.Given as given
 use Rattle.mk_tree.specs.Checked.{IsTreeOf}

@@ -18,8 +18,8 @@ use Rattle.mk_sums.specs.Sums.{over, Blind}
 use Rattle.mk_sums.specs.There.{holds_there, ratio_there}
 use Rattle.mk_sums.specs.Joint.{variables}
 use Rattle.mk_sums.proofs.Sums.{over-times, Blind_within}
-use Rattle.mk_table.specs.Scopes.{ScopeOf, cells_in, has_variable, size_in, HasEvent, HasOneEach}
-use Rattle.mk_table.specs.Cells.{values_at, cells_onto, cells_beside}
+use Rattle.mk_scope.specs.Scopes.{ScopeOf, cells_in, has_variable, size_in, HasEvent, HasOneEach}
+use Rattle.mk_scope.specs.Cells.{values_at, cells_onto, cells_beside}
 use Rattle.mk_table.specs.Tables.{TableOf, HasNumbers}
 use Rattle.mk_table.specs.Ratios.{KeepsPairs}
 use Rattle.mk_table.specs.Margins.{IsMarginBut}

@@ -10,7 +10,7 @@ use Rattle.mk_states.proofs.Sums.{product_by-append}
 use Rattle.mk_sums.specs.Sums.{upd, Blind}
 use Rattle.mk_sums.specs.Trees.{times_of, sum_of, linked_to}
 use Rattle.mk_sums.proofs.Sets.{times_agree, times_union, times_one}
-use Rattle.mk_table.proofs.Members.{range_more}
+use Rattle.mk_scope.proofs.Members.{range_more}
 use Rattle.mk_tree.specs.Given.{GivenTree, link_of}
 use Rattle.mk_propagate.specs.Shapes.{neighbours}
 use Rattle.mk_propagate.specs.inner.Gathered.{is_taken, is_input}

@@ -1,13 +1,13 @@
 -- Where a separator lies in the cliques at its ends, as a shape hands it out.
 use Rattle.std.proofs.Common.{◌≡◌, ℕ, ◌-◌, ◌<◌, ◌≤◌, inl, inr, true, false, List, [], length, get_or, max, sym, ap, ◌∙◌, arith}
 use Rattle.mk_sums.proofs.Hops.{IsChild, AreLinked, are_linked}
-use Rattle.mk_table.specs.Scopes.{PlacesOf}
+use Rattle.mk_scope.specs.Scopes.{ScopeOf, PlacesOf}
 use Rattle.mk_tree.specs.Given.{link_of}
 use Rattle.mk_propagate.specs.Shapes.{ShapeOf, IsClique, are_linked as is_linked, clique_scope, core_scope, separator_scope, separator_between}
 use Rattle.mk_propagate.specs.inner.Shaped.{IsShaped, shape_of}
 use Rattle.mk_propagate.proofs.Shaped.{places_long, places_read, core_places_long, core_places_read}
 
-module _ (shape : ShapeOf) (in_cliques in_links in_whole in_itself : List PlacesOf) (lists next : List (List ℕ)) (starts : List ℕ) (h : IsShaped shape in_cliques in_links in_whole in_itself lists next starts) (a b : ℕ) (linked_too : is_linked shape.tree a b ≡ true) where
+module _ (shape : ShapeOf) (scopes : List ScopeOf) (in_cliques in_links in_whole in_itself : List PlacesOf) (lists next : List (List ℕ)) (starts : List ℕ) (h : IsShaped shape scopes in_cliques in_links in_whole in_itself lists next starts) (a b : ℕ) (linked_too : is_linked shape.tree a b ≡ true) where
   -- the end that is linked to the other
   child_up : b < a → AreLinked (link_of shape.tree) (length shape.tree.cliques) a b → IsChild (link_of shape.tree) (length shape.tree.cliques) a b
   child_up l (inl c) = c
@@ -49,7 +49,7 @@ module _ (shape : ShapeOf) (in_cliques in_links in_whole in_itself : List Places
       ∙ ap (λ k. record { whole = core_scope shape a; part = separator_scope shape k }) (sym m)
 
 -- where a core lies in its clique
-module _ (shape : ShapeOf) (in_cliques in_links in_whole in_itself : List PlacesOf) (lists next : List (List ℕ)) (starts : List ℕ) (h : IsShaped shape in_cliques in_links in_whole in_itself lists next starts) (k : ℕ) (clique : IsClique shape.tree k) where
+module _ (shape : ShapeOf) (scopes : List ScopeOf) (in_cliques in_links in_whole in_itself : List PlacesOf) (lists next : List (List ℕ)) (starts : List ℕ) (h : IsShaped shape scopes in_cliques in_links in_whole in_itself lists next starts) (k : ℕ) (clique : IsClique shape.tree k) where
   pub within_whole : k - 1 < length in_whole
   within_whole = let n = core_places_long shape (length shape.tree.cliques) in_whole h.in_whole_are in omega (arith, n, clique.first, clique.last)
 

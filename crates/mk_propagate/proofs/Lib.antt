@@ -1,3 +1,5 @@
+pub mod Boards
+pub mod Begun
 pub mod Scopes
 pub mod Cores
 pub mod Split

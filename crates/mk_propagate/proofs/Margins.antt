@@ -14,11 +14,11 @@ use Rattle.mk_sums.specs.There.{holds_there}
 use Rattle.mk_sums.proofs.Sums.{over-times, over-union, over_agree}
 use Rattle.mk_sums.proofs.States.{is_plus, plus_below_numbers}
 use Rattle.mk_sums.proofs.Tables.{cells_nest, cell_of_place, place_cell_of}
-use Rattle.mk_table.specs.Scopes.{ScopeOf, size_in, cells_in, has_variable}
-use Rattle.mk_table.specs.Cells.{values_at, cell_in, cells_onto, cells_where}
-use Rattle.mk_table.proofs.Members.{keep_rising, rising_apart}
-use Rattle.mk_table.proofs.Values.{cells_same}
-use Rattle.mk_table.proofs.Kept.{value_in}
+use Rattle.mk_scope.specs.Scopes.{ScopeOf, size_in, cells_in, has_variable}
+use Rattle.mk_scope.specs.Cells.{values_at, cell_in, cells_onto, cells_where}
+use Rattle.mk_scope.proofs.Members.{keep_rising, rising_apart}
+use Rattle.mk_scope.proofs.Values.{cells_same}
+use Rattle.mk_scope.proofs.Kept.{value_in}
 use Rattle.mk_propagate.specs.Shapes.{scope_within}
 use Rattle.mk_propagate.proofs.Scopes.{within_set, size_within, cells_within, values_within, part_lies_in}
 

@@ -25,8 +25,8 @@ use Rattle.mk_sums.proofs.Hops.{AreLinked, are_linked, linked_back, linked_from,
 use Rattle.mk_sums.proofs.Sums.{over-times, over-union, over_agree, Blind_within}
 use Rattle.mk_sums.proofs.Unread.{message_reads}
 use Rattle.mk_sums.proofs.Tables.{cell_of_place}
-use Rattle.mk_table.specs.Scopes.{ScopeOf, size_in, cells_in, has_variable}
-use Rattle.mk_table.specs.Cells.{values_at, cell_in, cells_onto, cells_beside}
+use Rattle.mk_scope.specs.Scopes.{ScopeOf, size_in, cells_in, has_variable}
+use Rattle.mk_scope.specs.Cells.{values_at, cell_in, cells_onto, cells_beside}
 use Rattle.mk_table.specs.Tables.{TableOf, HasNumbers, HasRoom}
 use Rattle.mk_table.specs.Ratios.{keeps, KeepsPairs, HasRatios}
 use Rattle.mk_tree.proofs.Cells.{cells_positive}
@@ -37,8 +37,8 @@ use Rattle.mk_propagate.specs.Flows.{HasCells, core_there, core_steps, private_c
 use Rattle.mk_propagate.specs.inner.Gathered.{is_taken, is_input, IsRightIn, HasOutgoing, gathered, gathered_steps, gathered_factors, gathered_ratios, HasGathered, IsMargin, IsMarginOfProduct, IsMessageAlone}
 use Rattle.mk_propagate.proofs.Scopes.{has_within, within_network, within_set, variable_of_network, part_has_fewer, clique_counted, clique_small}
 use Rattle.mk_propagate.proofs.Cores.{core_has, core_part, neighbour_linked}
-use Rattle.mk_table.proofs.Chosen.{chosen_pass}
-use Rattle.mk_table.proofs.Members.{keep_rising, rising_apart}
+use Rattle.mk_scope.proofs.Chosen.{chosen_pass}
+use Rattle.mk_scope.proofs.Members.{keep_rising, rising_apart}
 use Rattle.mk_table.proofs.Owned.{own_more, plus_scaled}
 use Rattle.mk_table.proofs.RatiosKept.{all_kept, no_ratios}
 use Rattle.mk_propagate.proofs.Margins.{margin_over, values_of_part}

@@ -3,8 +3,7 @@ use Rattle.std.proofs.Common.{◌≡◌, ◌≢◌, ℕ, suc, zero, ◌+◌, ◌
 use Rattle.std.specs.Prelude.{nat_lt, slice_set, None}
 use Rattle.std.proofs.Math.Path.{fun_ext}
 use Rattle.std.proofs.lemmas.Bool.{cases_eq, both_ways}
-use Rattle.std.proofs.lemmas.List.{length_push, map-append, length-set, get_or-set_same, get_or-set_other, get_or_default, get_or_push}
-use Rattle.std.proofs.Math.ListN.{get_or-append}
+use Rattle.std.proofs.lemmas.List.{length_push, map-append, length-set, get_or-set_same, get_or-set_other, get_or_default}
 use Rattle.std.proofs.lemmas.List.Elements.{All-push, All-nil}
 use Rattle.std.proofs.lemmas.List.Sums.{sum_by_push, count_by-le-length}
 use Rattle.mk_net.specs.declared.words.Pair.{Pair}
@@ -15,8 +14,8 @@ use Rattle.mk_sums.specs.Sums.{over}
 use Rattle.mk_sums.specs.Joint.{Item, variables, where_has}
 use Rattle.mk_sums.specs.Trees.{sum_of, behind}
 use Rattle.mk_sums.proofs.Stale.{change_leaves}
-use Rattle.mk_table.specs.Scopes.{ScopeOf, cells_in}
-use Rattle.mk_table.specs.Cells.{values_at}
+use Rattle.mk_scope.specs.Scopes.{ScopeOf, cells_in}
+use Rattle.mk_scope.specs.Cells.{values_at}
 use Rattle.mk_table.specs.Tables.{TableOf, HasNumbers, HasRoom}
 use Rattle.mk_table.specs.Ratios.{KeepsPairs, HasRatios}
 use Rattle.mk_table.proofs.RatiosKept.{no_ratios, same_ratios, ratios_restricted}
@@ -26,7 +25,8 @@ use Rattle.mk_propagate.specs.Shapes.{ShapeOf, IsShapeFor, IsClique, is_behind, 
 use Rattle.mk_propagate.specs.Placings.{Placing, PlacedFactor, PlacedPair, with_factor_in, with_pair_in, nothing_placed, factor_item, pair_item, placed_there, factors_in, ratios_in, IsPlacedFactor, IsPlacedPair, IsPlacing, IsCommon}
 use Rattle.mk_propagate.specs.Flows.{FlowOf, no_table, table_at, core_at, is_summed, message_at, HasCells, HasSums, HasPlaced, IsRight, KeepsMessages, Places, core_there, core_steps, private_cells, exact_message, exact_message_grade, message_ratios}
 use Rattle.mk_propagate.specs.inner.Kept.{IsKept, AreOverCores}
-use Rattle.mk_propagate.specs.inner.Ones.{IsOnes, AreOnes}
+use Rattle.mk_table.specs.Lists.{IsOnes}
+use Rattle.mk_propagate.specs.inner.Ones.{AreOnes}
 use Rattle.mk_propagate.proofs.Ratios.{ratios_elsewhere, common_before}
 
 -- ---- what is placed in each clique
@@ -347,23 +347,6 @@ kept_with old products cells clique count read t cores summed h over marks other
         ∙ ap (λ (u : TableOf). u.shift) (sym (get_or-set_other old.tables (clique - 1) (k - 1) t no_table (λ e. d (omega (arith, e, at.first, first)))))
 
 -- ---- a start
-
-pub ones_more : (scope : ℕ → ScopeOf) (first count : ℕ) (ts new : List TableOf) (t : TableOf) → AreOnes scope first count ts → new ≡ ts ++ t ∷ []
-    → IsOnes (scope (first + count)) t → AreOnes scope first (count + 1) new
-ones_more scope first count ts new t h pushed last = record {
-  long = ap length pushed ∙ length_push ts t ∙ ap (λ (n : ℕ). n + 1) h.long;
-  each = λ i l. from i l (cases_eq i count);
-}
-  where
-    from : (i : ℕ) → i < count + 1 → ((i ≡ count) ⊎ (i ≡ count → ⊥)) → IsOnes (scope (first + i)) (slice_index_or new i no_table)
-    from i l (inl e) =
-        let r : slice_index_or new i no_table ≡ t = ap (λ (us : List TableOf). slice_index_or us i no_table) pushed ∙ get_or_push ts t no_table i (h.long ∙ sym e) in
-        subst (IsOnes (scope (first + i))) (sym r) (subst (λ (n : ℕ). IsOnes (scope (first + n)) t) (sym e) last)
-    from i l (inr d) =
-        let m : i < count = omega (arith, d) in
-        let r : slice_index_or new i no_table ≡ slice_index_or ts i no_table = ap (λ (us : List TableOf). slice_index_or us i no_table) pushed
-        ∙ get_or-append ts (t ∷ []) no_table i (omega (arith, m, h.long)) in
-        subst (IsOnes (scope (first + i))) (sym r) (h.each i m)
 
 -- the table of a clique, or of a separator
 pub one_of : (scope : ℕ → ScopeOf) (first count : ℕ) (ts : List TableOf) → AreOnes scope first count ts → (k : ℕ) → first ≤ k → k < first + count

@@ -5,16 +5,28 @@ use Rattle.std.specs.List.{list_any}
 use Rattle.std.proofs.lemmas.Bool.{and_from, and_parts}
 use Rattle.mk_states.specs.Lawful.{Lawful}
 use Rattle.mk_sums.specs.Trees.{linked, linked_to}
-use Rattle.mk_table.specs.Scopes.{ScopeOf, PlacesOf, cells_in}
-use Rattle.mk_table.specs.Cells.{cell_in}
+use Rattle.mk_scope.specs.Scopes.{ScopeOf, PlacesOf, cells_in}
+use Rattle.mk_scope.specs.Cells.{cell_in}
 use Rattle.mk_table.specs.Tables.{TableOf, HasNumbers, HasRoom}
 use Rattle.mk_table.specs.Ratios.{KeepsPairs}
 use Rattle.mk_tree.specs.Given.{link_of}
-use Rattle.mk_propagate.specs.Shapes.{ShapeOf, IsClique, core_scope, separator_scope, separator_between, neighbours}
-use Rattle.mk_propagate.specs.Placings.{Placing}
+use Rattle.mk_propagate.specs.Shapes.{ShapeOf, IsShapeFor, IsClique, are_linked as is_linked, core_scope, separator_scope, separator_between, neighbours}
+use Rattle.mk_propagate.specs.Placings.{Placing, IsPlacing}
 use Rattle.mk_propagate.specs.Flows.{HasSums}
 use Rattle.mk_propagate.specs.inner.Gathered.{is_taken, message_in, IsRightIn, CanTake, HasGathered, HasInto, IsGathering, IsMargin, IsPlacedIn}
-use Rattle.mk_propagate.proofs.Messages.{core_sums, none_gathered, whole_room, put_back, back_room}
+use Rattle.mk_propagate.specs.inner.Boards.{BoardOf, IsOver, HasBoth}
+use Rattle.mk_propagate.proofs.Messages.{are_ends, core_sums, none_gathered, whole_room, put_back, back_room}
+
+-- two cliques that are linked are cliques of a board over the shape
+pub both_there : (shape : ShapeOf) (board : BoardOf) (p : Placing) → IsShapeFor shape p.network → IsPlacing shape.tree p → IsOver shape board
+    → (a b : ℕ) → is_linked shape.tree a b ≡ true → HasBoth board a b
+both_there shape board p fits placing over a b l =
+    let e = are_ends shape p fits placing a b l in
+    record {
+      one = record { first = e.0.first; last = omega (arith, e.0.last, over) };
+      other = record { first = e.1.first; last = omega (arith, e.1.last, over) };
+      apart = e.2;
+    }
 
 -- the shape has its places in what is gathered so far
 pub places_there : (plus : ℕ → ℕ → ℕ) (shape : ShapeOf) (k i : ℕ) (p : Placing) (old message : TableOf) → old.scope ≡ core_scope shape k

@@ -1,31 +1,30 @@
 -- The ratios that are placed: their numbers add up over the neighbours of a clique, and a clique holds the variable of a pair that they have in common wherever one of them is placed.
-use Rattle.std.proofs.Common.{◌≡◌, ◌≢◌, ℕ, suc, zero, ◌+◌, ◌*◌, ◌^◌, ◌<◌, ◌≤◌, Bool, true, false, cond, not, ◌&&◌, ◌||◌, ◌⊎◌, inl, inr, eqb, List, [], ◌∷◌, ◌++◌, map, length, sum_by, count_by, All, Option, Some, None, refl, sym, ap, ◌∙◌, arith, eq-eqb, ne_eqb}
+use Rattle.std.proofs.Common.{◌≡◌, ◌≢◌, ℕ, suc, zero, ◌+◌, ◌*◌, ◌^◌, ◌<◌, ◌≤◌, Bool, true, false, cond, not, ◌&&◌, ◌⊎◌, inl, inr, eqb, List, [], ◌∷◌, ◌++◌, map, length, sum_by, count_by, Some, None, refl, sym, ap, ◌∙◌, arith, eq-eqb, ne_eqb}
 use Rattle.std.specs.List.{Contains, AllByRecursion, list_all, list_any}
 use Rattle.std.proofs.Math.Path.{fun_ext}
 use Rattle.std.proofs.Math.Nat.{one-mul}
 use Rattle.std.proofs.Math.Pow.{pow-lt}
 use Rattle.std.proofs.lemmas.Nat.{pow-add}
-use Rattle.std.proofs.lemmas.Bool.{cases_Bool, cases_eq, cases_order, both_ways, and_parts, and_right, or_parts, eqb-true}
+use Rattle.std.proofs.lemmas.Bool.{cases_Bool, cases_order, both_ways, and_parts, and_right, or_parts, eqb-true}
 use Rattle.std.proofs.lemmas.List.Elements.{All-from_recursion, recursion_from_All}
 use Rattle.std.proofs.lemmas.List.Folds.{list_all-append, list_all_at}
 use Rattle.std.proofs.lemmas.List.Sums.{sum_by_push, sum_by-cons}
 use Rattle.mk_net.specs.declared.words.Pair.{Pair}
 use Rattle.mk_net.specs.Asked.{TradeRatio, ratio_pairs}
-use Rattle.mk_net.specs.Sets.{is_member}
 use Rattle.mk_net.specs.Network.{Variable}
-use Rattle.mk_sums.specs.Trees.{Links, Running, times_of, sum_of, linked, linked_to, linked_but, behind, hop}
+use Rattle.mk_sums.specs.Trees.{Links, times_of, sum_of, linked, linked_to, linked_but, behind, hop}
 use Rattle.mk_sums.proofs.Grades.{sums_lawful}
 use Rattle.mk_sums.proofs.Groups.{message_law, read_law}
 use Rattle.mk_sums.proofs.Hops.{are_linked, ends}
 use Rattle.mk_sums.proofs.Sides.{crossing}
-use Rattle.mk_tree.specs.Given.{GivenTree, clique_at, holds, link_of}
+use Rattle.mk_tree.specs.Given.{GivenTree, holds, link_of}
 use Rattle.mk_engine.specs.Meaning.{Factor, RowsOf, SupportOf, RatioOf, is_ratio}
 use Rattle.mk_engine.specs.Apart.{HasCondition}
 use Rattle.mk_engine.proofs.Apart.{ratio_count}
 use Rattle.mk_propagate.specs.Shapes.{ShapeOf, IsShapeFor, IsClique, is_behind, in_core, neighbours}
 use Rattle.mk_propagate.specs.Placings.{Placing, PlacedFactor, with_factor_in, IsPlacing, IsFactorIn, IsPlacedFactor, IsCommon, ratios_in}
 use Rattle.mk_propagate.specs.Flows.{message_ratios}
-use Rattle.mk_propagate.specs.inner.Gathered.{is_taken, is_input, gathered_ratios}
+use Rattle.mk_propagate.specs.inner.Gathered.{is_input, gathered_ratios}
 use Rattle.mk_propagate.proofs.Cores.{core_has}
 use Rattle.mk_propagate.proofs.Inputs.{sum_inputs, sum_parted}
 

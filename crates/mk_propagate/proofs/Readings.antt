@@ -24,7 +24,7 @@ use Rattle.mk_sums.specs.Trees.{times_of, Covers, linked_to, IsTree}
 use Rattle.mk_sums.specs.Joint.{joint, where_has, Item, IsItem, variables}
 use Rattle.mk_sums.proofs.Sides.{held_by}
 use Rattle.mk_sums.proofs.Items.{joint_is_read, known_are_factors, items_fit}
-use Rattle.mk_table.specs.Cells.{values_at, cells_where}
+use Rattle.mk_scope.specs.Cells.{values_at, cells_where}
 use Rattle.mk_tree.specs.Given.{holds as clique_holds, GivenTree, clique_at, link_of, holds_event}
 use Rattle.mk_tree.specs.Tests.{holds_family}
 use Rattle.mk_engine.specs.Meaning.{Meaning, Factor, RowsOf, SupportOf, RatioOf, factor_there, exact_belief, whole_sum}

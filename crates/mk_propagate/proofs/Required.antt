@@ -13,7 +13,7 @@ use Rattle.mk_states.specs.OfNetwork.{IsPairOf, IsRatioOf}
 use Rattle.mk_states.proofs.Sums.{each_weaker}
 use Rattle.mk_states.proofs.Listed.{as_many}
 use Rattle.mk_states.proofs.Shares.{size_at, parents_within}
-use Rattle.mk_table.specs.Scopes.{ScopeOf, size_in, has_variable, HasEvent, HasOneEach, HasSized}
+use Rattle.mk_scope.specs.Scopes.{ScopeOf, size_in, has_variable, HasEvent, HasOneEach, HasSized}
 use Rattle.mk_tree.specs.Given.{GivenTree, clique_at, holds, holds_event}
 use Rattle.mk_tree.specs.Tests.{holds_family}
 use Rattle.mk_propagate.specs.Shapes.{ShapeOf, IsShapeFor, IsClique, scope_within}

@@ -15,10 +15,10 @@ use Rattle.mk_states.proofs.Shares.{size_at}
 use Rattle.mk_sums.specs.Sums.{listed}
 use Rattle.mk_sums.specs.Cells.{keep, cells, place, InRange}
 use Rattle.mk_sums.specs.Joint.{variables}
-use Rattle.mk_table.specs.Scopes.{size_in, cells_in, has_variable, scope_of, LiesIn, HasSized}
-use Rattle.mk_table.specs.Cells.{values_at}
-use Rattle.mk_table.proofs.Members.{size_of_map}
-use Rattle.mk_table.proofs.Values.{cells_same, place_same, place_below, place_other}
+use Rattle.mk_scope.specs.Scopes.{size_in, cells_in, has_variable, scope_of, LiesIn, HasSized}
+use Rattle.mk_scope.specs.Cells.{values_at}
+use Rattle.mk_scope.proofs.Members.{size_of_map}
+use Rattle.mk_scope.proofs.Values.{cells_same, place_same, place_below, place_other}
 use Rattle.mk_tree.specs.Given.{GivenTree, clique_at, holds, link_of}
 use Rattle.mk_tree.specs.Tests.{cells_of, members}
 use Rattle.mk_tree.specs.Checked.{IsTreeOf}

@@ -13,6 +13,7 @@ use Rattle.mk_propagate.specs.inner.Gathered.{is_input, IsRightIn, CanTake, HasG
 use Rattle.mk_propagate.proofs.Placed.{AreOthersKept, table_read}
 use Rattle.mk_propagate.proofs.Messages.{are_ends}
 use Rattle.mk_propagate.proofs.Split.{core_split}
+use Rattle.mk_propagate.proofs.Boards.{read_there}
 
 -- a list of tables, one of which is put anew over the same scope
 pub same_scopes : (ts : List TableOf) (i j : ℕ) (t : TableOf) → i < length ts → t.scope ≡ (slice_index_or ts i no_table).scope → (slice_index_or (slice_set ts i t) j no_table).scope ≡ (slice_index_or ts j no_table).scope
@@ -231,6 +232,18 @@ separator_down flow products cells kept a b c l t e =
     let m : max a b ≡ b = omega arith in
     let within : b - 2 < length flow.downward = omega (arith, kept.one_less_down, c.later, c.within) in
     ap (λ (s : TableOf). s.scope) (sym (table_read flow.downward (b - 2) t within e)) ∙ kept.downward_scopes b (record { first = omega (arith, c.later); last = c.within }) c.later ∙ ap (separator_scope flow.shape) (sym m)
+
+pub separator_there : (plus : ℕ → ℕ → ℕ) (flow : FlowOf) (products : List TableOf) (cells : ℕ) → IsKept flow products cells → (p : Placing) → HasPlaced plus flow p
+    → (a b : ℕ) → is_linked flow.shape.tree a b ≡ true → (message_at flow a b).scope ≡ separator_between flow.shape a b
+separator_there plus flow products cells kept p has a b l = at (cases_lt b a)
+  where
+    at : ((b < a) ⊎ (a ≤ b)) → (message_at flow a b).scope ≡ separator_between flow.shape a b
+    at (inl m) =
+        ap (λ (x : Bool). (cond x (slice_index_or flow.upward (a - 2) no_table) (slice_index_or flow.downward (b - 2) no_table)).scope) (lt-ltb b a m)
+        ∙ separator_up flow products cells kept a b (upward_child plus flow p has a b l m) m (slice_index_or flow.upward (a - 2) no_table) (read_there flow.upward (a - 2))
+    at (inr m) =
+        ap (λ (x : Bool). (cond x (slice_index_or flow.upward (a - 2) no_table) (slice_index_or flow.downward (b - 2) no_table)).scope) (le-ltb b a m)
+        ∙ separator_down flow products cells kept a b (downward_child plus flow p has a b l m) m (slice_index_or flow.downward (b - 2) no_table) (read_there flow.downward (b - 2))
 
 -- the new message is read there, and each other one is as it was
 pub message_up : (old : FlowOf) (a b computed : ℕ) (t : TableOf) → b < a → a - 2 < length old.upward → message_at (with_upward old (a - 2) t computed) a b ≡ t

@@ -1,5 +1,5 @@
 -- One clique more of what a shape keeps, and the next cliques on the ways.
-use Rattle.std.proofs.Common.{◌≡◌, ◌≢◌, ℕ, suc, ◌+◌, ◌-◌, ◌<◌, ◌≤◌, Bool, true, false, cond, ◌⊎◌, inl, inr, List, [], ◌∷◌, ◌++◌, map, filter, length, slice_index, slice_index_or, get_or, set, take, refl, sym, ap, subst, ◌∙◌, arith, length-set, get_or-set_other, get_or-take}
+use Rattle.std.proofs.Common.{◌≡◌, ◌≢◌, ℕ, suc, ◌+◌, ◌-◌, ◌<◌, ◌≤◌, Bool, true, false, cond, ◌⊎◌, inl, inr, List, [], ◌∷◌, ◌++◌, map, filter, length, slice_index, slice_index_or, get_or, set, take, refl, sym, ap, subst, ◌∙◌, arith, length-append, length-set, get_or-set_other, get_or-take}
 use Rattle.std.proofs.lemmas.Grind.{get_or-set_at}
 use Rattle.std.specs.List.{range_with_len}
 use Rattle.std.proofs.lemmas.Bool.{cases_eq}
@@ -7,14 +7,14 @@ use Rattle.std.proofs.lemmas.List.{length-map, length-take-le, length_push, get_
 use Rattle.std.proofs.lemmas.List.FromFn.{map-range_with_len_more, get_or-map-range_with_len, length-map-range_with_len}
 use Rattle.std.proofs.Math.ListN.{get_or-map, get_or-append}
 use Rattle.mk_sums.proofs.Hops.{IsChild, ends, hop_linked, hop_near, hop_up, hop_step}
-use Rattle.mk_table.proofs.Members.{range_more}
+use Rattle.mk_scope.proofs.Members.{range_more}
 use Rattle.mk_tree.specs.Given.{GivenTree, link_of, holds}
 use Rattle.mk_tree.specs.Given as given
 use Rattle.mk_tree.specs.Checked.{IsTreeOf}
 use Rattle.mk_net.specs.Network.{Variable, IsNetwork}
-use Rattle.mk_table.specs.Scopes.{ScopeOf, PlacesOf, LiesIn}
+use Rattle.mk_scope.specs.Scopes.{ScopeOf, PlacesOf, LiesIn}
 use Rattle.mk_propagate.specs.Shapes.{ShapeOf, IsClique, AreNextTo, IsShapeFor, clique_scope, core_scope, separator_scope, next_on_way, scope_within, in_core, shares, no_scope}
-use Rattle.mk_propagate.specs.inner.Shaped.{AreWays, AreStarts, IsShaped, CanPlaceSeparators, CanPlaceCores, scopes_of_cliques, scopes_of_cores, scopes_of_separators, lists_of_neighbours, shape_of, whole_of, places_of, core_places_of}
+use Rattle.mk_propagate.specs.inner.Shaped.{AreWays, AreStarts, IsShaped, CanPlaceSeparators, CanPlaceCores, scopes_of_cliques, scopes_of_cores, scopes_of_separators, lists_of_neighbours, shape_of, whole_of, places_of, core_places_of, scopes_of}
 use Rattle.mk_propagate.proofs.Cores.{shared_lies_in_core, shared_lies_in_link_core, core_lies_in}
 
 map_push : {A B : Type 0} (f : A → B) (xs : List A) (y : A) → map f (xs ++ y ∷ []) ≡ map f xs ++ f y ∷ []
@@ -205,9 +205,10 @@ module _ (shape : ShapeOf) (network : List Variable) (tree : GivenTree) (tree_is
       → in_whole ≡ core_places_of (shape_of tree shape.cliques shape.cores []) (length tree.cliques)
       → in_itself ≡ core_places_of (shape_of tree shape.cores shape.cores []) (length tree.cliques)
       → (lists ways : List (List ℕ)) → lists ≡ lists_of_neighbours tree (length tree.cliques) → AreWays tree (length tree.cliques) ways
-      → (starts : List ℕ) → AreStarts tree starts → IsShaped shape in_cliques in_links in_whole in_itself lists ways starts
-  shaped linked in_cliques in_links in_whole in_itself p q w o lists ways l r starts s = record {
+      → (starts : List ℕ) → AreStarts tree starts → (scopes : List ScopeOf) → scopes ≡ scopes_of shape → IsShaped shape scopes in_cliques in_links in_whole in_itself lists ways starts
+  shaped linked in_cliques in_links in_whole in_itself p q w o lists ways l r starts s scopes e = record {
     linked = subst given.AreLinked (sym tree_is) linked;
+    scopes_are = e;
     in_cliques_are = subst (λ (t : GivenTree). in_cliques ≡ places_of (shape_of t [] shape.cores shape.separators) false (length t.cliques - 1)) (sym tree_is) p;
     in_links_are = subst (λ (t : GivenTree). in_links ≡ places_of (shape_of t [] shape.cores shape.separators) true (length t.cliques - 1)) (sym tree_is) q;
     in_whole_are = subst (λ (t : GivenTree). in_whole ≡ core_places_of (shape_of t shape.cliques shape.cores []) (length t.cliques)) (sym tree_is) w;
@@ -219,6 +220,12 @@ module _ (shape : ShapeOf) (network : List Variable) (tree : GivenTree) (tree_is
     ways_are = subst (λ (t : GivenTree). AreWays t (length t.cliques) ways) (sym tree_is) r;
     starts_are = subst (λ (t : GivenTree). AreStarts t starts) (sym tree_is) s;
   }
+
+  -- there are few enough of all scopes
+  pub few_scopes : given.AreLinked tree → {A : Type 0} (f : A → ScopeOf) (items : List A) → map f items ≡ scopes_of shape → length items ≤ 4096
+  few_scopes linked f items e =
+      let all = simp length-append at (ap (λ (xs : List ScopeOf). length xs) e) in let same = length-map items f in
+      omega (arith, all, same, one_each, one_core_each, one_less linked, ap (λ (t : GivenTree). length t.cliques) tree_is, linked.few)
 
   pub shape_for : IsNetwork network → IsTreeOf network tree → IsShapeFor shape network
   shape_for legal is = record {

@@ -6,13 +6,13 @@ use Rattle.mk_net.specs.Bounds.{max_clique_cells}
 use Rattle.mk_net.specs.Network.{Variable, IsNetwork, sizes}
 use Rattle.mk_sums.specs.Cells.{keep}
 use Rattle.mk_sums.specs.Joint.{variables}
-use Rattle.mk_table.specs.Scopes.{ScopeOf, IsScope, LiesIn, size_in, cells_in}
-use Rattle.mk_table.specs.Cells.{cells_beside}
-use Rattle.mk_table.specs.inner.Strides.{cells_with, values_moved}
-use Rattle.mk_table.proofs.Members.{keep_below, keep_rising, size_pos}
-use Rattle.mk_table.proofs.Values.{cells_pos}
-use Rattle.mk_table.proofs.Writing.{two_values_at}
-use Rattle.mk_table.proofs.Onto.{bases_count, cells_apart, onto_cells}
+use Rattle.mk_scope.specs.Scopes.{ScopeOf, IsScope, LiesIn, size_in, cells_in}
+use Rattle.mk_scope.specs.Cells.{cells_beside}
+use Rattle.mk_scope.specs.inner.Strides.{cells_with, values_moved}
+use Rattle.mk_scope.proofs.Members.{keep_below, keep_rising, size_pos}
+use Rattle.mk_scope.proofs.Values.{cells_pos}
+use Rattle.mk_scope.proofs.Writing.{two_values_at}
+use Rattle.mk_scope.proofs.Onto.{bases_count, cells_apart, onto_cells}
 use Rattle.mk_tree.specs.Given.{holds}
 use Rattle.mk_propagate.specs.Shapes.{ShapeOf, IsClique, IsShapeFor, clique_scope, core_scope, scope_within, in_core}
 use Rattle.mk_propagate.proofs.Scopes.{part_has_fewer, clique_small}

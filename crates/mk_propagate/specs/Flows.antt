@@ -6,8 +6,8 @@ use Rattle.mk_net.specs.Network.{Variable, sizes}
 use Rattle.mk_sums.specs.Sums.{over}
 use Rattle.mk_sums.specs.Joint.{variables}
 use Rattle.mk_sums.specs.Trees.{linked_to, linked_but, right_message, message_grade, sum_of}
-use Rattle.mk_table.specs.Scopes.{ScopeOf}
-use Rattle.mk_table.specs.Cells.{values_at, cells_beside}
+use Rattle.mk_scope.specs.Scopes.{ScopeOf}
+use Rattle.mk_scope.specs.Cells.{values_at, cells_beside}
 use Rattle.mk_table.specs.Tables.{TableOf, HasNumbers}
 use Rattle.mk_table.specs.Ratios.{HasRatios}
 use Rattle.mk_tree.specs.Given.{GivenTree, clique_at, holds, link_of, holds_event}

@@ -5,7 +5,7 @@ use Rattle.mk_net.specs.Network.{Variable, IsNetwork, sizes}
 use Rattle.mk_sums.specs.Cells.{keep}
 use Rattle.mk_sums.specs.Joint.{variables}
 use Rattle.mk_sums.specs.Trees.{linked, linked_to, hop, behind}
-use Rattle.mk_table.specs.Scopes.{ScopeOf, cells_in}
+use Rattle.mk_scope.specs.Scopes.{ScopeOf, cells_in}
 use Rattle.mk_tree.specs.Given.{GivenTree, holds, link_of}
 use Rattle.mk_tree.specs.Checked.{IsTreeOf}
 

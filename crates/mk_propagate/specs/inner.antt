@@ -5,3 +5,5 @@ pub mod Shaped
 pub mod Passes
 pub mod Ones
 pub mod Totals
+pub mod Boards
+pub mod Changes

@@ -1,22 +1,22 @@
 //! What is placed in a flow.
 
-ghost use Rattle.std.specs.Prelude.{◌≡◌, ◌+◌, ◌-◌, ◌<◌, List, length, true, IfOk};
+ghost use Rattle.std.specs.Prelude.{◌≡◌, ◌+◌, List, length, true, IfOk};
 ghost use Rattle.mk_net.specs.Trades.{trade_ratio};
 ghost use Rattle.mk_net.specs.Network.{Variable};
 ghost use Rattle.mk_sums.specs.Trees.{sum_of};
-ghost use Rattle.mk_table.specs.Scopes.{cells_in};
+ghost use Rattle.mk_scope.specs.Scopes.{cells_in};
 ghost use Rattle.mk_engine.specs.Meaning.{RowsOf, SupportOf, RatioOf};
-ghost use Rattle.mk_propagate.specs.Shapes.{IsShapeFor, clique_scope, core_scope, separator_scope};
+ghost use Rattle.mk_propagate.specs.Shapes.{IsShapeFor, clique_scope};
 ghost use Rattle.mk_propagate.specs.Placings.{Placing, nothing_placed, with_factor_in, with_pair_in, IsPlacedFactor, IsPlacedPair};
 ghost use Rattle.mk_propagate.specs.Flows.{HasPlaced, CanPlace, Places, KeepsMessages};
-ghost use Rattle.mk_propagate.specs.inner.Ones.{AreOnes};
 
+use crate::board::Board;
 use crate::gathered::Gathered;
 use crate::shape::Shape;
 use crate::sums::follow;
 use mk_net::{Network, NoMemory, Pair, Ratio};
+use mk_scope::CellList;
 use mk_semiring::Semiring;
-use mk_table::{CellList, Table};
 use std::alloc::Global;
 use std::marker::Model;
 use std::rc::Rc;
@@ -27,14 +27,9 @@ use std::rc::Rc;
 #[derive(Drop)]
 pub struct Flow<R: Semiring> {
     pub(crate) shape: Rc<Shape>,
-    pub(crate) tables: Vec<Table<R>>,
-    pub(crate) upward: Vec<Table<R>>,
-    pub(crate) downward: Vec<Table<R>>,
-    // Over the core of each clique: its table, summed there where that is marked, and a product of messages, with a mark of whose
-    // messages it has.
-    pub(crate) cores: Vec<Table<R>>,
+    pub(crate) board: Board<R>,
+    // Whether the table of each clique is summed over its core, and whose messages the product there has.
     pub(crate) summed: Vec<bool>,
-    pub(crate) products: Vec<Table<R>>,
     pub(crate) gathered: Vec<Gathered>,
     // Where the cells of an event are listed.
     pub(crate) chosen: Box<CellList>,
@@ -52,25 +47,25 @@ impl<R: Semiring> Model for Flow<R> {
 
     ghost view = { λ f. record {
       shape = f.shape.value;
-      tables = f.tables.items;
-      cores = f.cores.items;
+      tables = f.board.tables;
+      cores = f.board.cores;
       summed = f.summed.items;
-      upward = f.upward.items;
-      downward = f.downward.items;
+      upward = f.board.upward;
+      downward = f.board.downward;
       factors = f.factors;
       computed = f.computed;
     } };
 
     ghost invariant = { λ f. IsFlow R.plus_of (record {
       shape = f.shape.value;
-      tables = f.tables.items;
-      cores = f.cores.items;
+      tables = f.board.tables;
+      cores = f.board.cores;
       summed = f.summed.items;
-      upward = f.upward.items;
-      downward = f.downward.items;
+      upward = f.board.upward;
+      downward = f.board.downward;
       factors = f.factors;
       computed = f.computed;
-    }) f.products.items f.gathered.items f.cells };
+    }) f.board.products f.gathered.items f.cells };
 }
 
 impl<R: Semiring> Flow<R> {
@@ -82,19 +77,11 @@ impl<R: Semiring> Flow<R> {
     {
         let of: &Shape = shape;
         let _ = of.cliques();
-        let tables = tables_of_cliques(alloc, of)?;
-        let upward = tables_of_separators(alloc, of)?;
-        let downward = tables_of_separators(alloc, of)?;
-        let cores = tables_of_cores(alloc, of)?;
-        let products = tables_of_cores(alloc, of)?;
+        let board = Board::ones(alloc, of)?;
         Ok(Flow {
             shape: shape.clone()?,
-            tables,
-            upward,
-            downward,
-            cores,
+            board,
             summed: vec![in alloc; false; of.cliques() as usize]?,
-            products,
             gathered: vec![in alloc; Gathered::Nothing; of.cliques() as usize]?,
             chosen: Box::new(alloc, CellList::new())?,
             cells: count_cells(of),
@@ -125,9 +112,8 @@ impl<R: Semiring> Flow<R> {
             → Places R.plus_of self.old self.new clique p (with_factor_in clique (RowsOf variable) p) }
         ensures kept { KeepsMessages self.old self.new }
     {
-        let place = clique as usize - 1;
-        self.tables[place].times_rows(net, variable);
-        self.summed[place] = false;
+        self.board.times_rows(clique, net, variable);
+        self.summed[clique as usize - 1] = false;
         self.factors += 1;
     }
 
@@ -139,9 +125,8 @@ impl<R: Semiring> Flow<R> {
             → Places R.plus_of self.old self.new clique p (with_factor_in clique (SupportOf variable) p) }
         ensures kept { KeepsMessages self.old self.new }
     {
-        let place = clique as usize - 1;
-        self.tables[place].times_support(net, variable);
-        self.summed[place] = false;
+        self.board.times_support(clique, net, variable);
+        self.summed[clique as usize - 1] = false;
         self.factors += 1;
     }
 
@@ -154,11 +139,10 @@ impl<R: Semiring> Flow<R> {
         ensures kept { KeepsMessages self.old self.new }
     {
         let place = clique as usize - 1;
-        self.tables[place].times_ratio(ratio, &mut self.chosen);
+        self.board.times_ratio(clique, ratio, &mut self.chosen);
         follow(
-            &mut self.cores[place],
+            &mut self.board,
             &mut self.summed[place],
-            &self.tables[place],
             &self.shape,
             clique,
             ratio,
@@ -173,46 +157,9 @@ impl<R: Semiring> Flow<R> {
         ensures places { (p : Placing) → HasPlaced R.plus_of self.old p → Places R.plus_of self.old self.new clique p (with_pair_in clique pair p) }
         ensures kept { KeepsMessages self.old self.new }
     {
-        let place = clique as usize - 1;
-        self.tables[place].restrict(pair);
-        self.summed[place] = false;
+        self.board.restrict(clique, pair);
+        self.summed[clique as usize - 1] = false;
     }
-}
-
-/// A table of ones over the scope of each clique.
-fn tables_of_cliques<R: Semiring>(alloc: Global, shape: &Shape) -> Result<Vec<Table<R>>, NoMemory>
-    ensures { IfOk result (λ tables. AreOnes (clique_scope shape.now) 1 (length shape.now.tree.cliques) tables.items) }
-{
-    let mut tables = Vec::new(alloc);
-    for passed in 0..shape.cliques() {
-        tables.push(Table::ones(alloc, shape.clique(passed + 1))?)?;
-    }
-    Ok(tables)
-}
-
-/// A table of ones over the core of each clique.
-fn tables_of_cores<R: Semiring>(alloc: Global, shape: &Shape) -> Result<Vec<Table<R>>, NoMemory>
-    ensures { IfOk result (λ tables. AreOnes (core_scope shape.now) 1 (length shape.now.tree.cliques) tables.items) }
-{
-    let mut tables = Vec::new(alloc);
-    for passed in 0..shape.cliques() {
-        tables.push(Table::ones(alloc, shape.core(passed + 1))?)?;
-    }
-    Ok(tables)
-}
-
-/// A table of ones over the scope of each separator.
-fn tables_of_separators<R: Semiring>(
-    alloc: Global,
-    shape: &Shape,
-) -> Result<Vec<Table<R>>, NoMemory>
-    ensures { IfOk result (λ tables. AreOnes (separator_scope shape.now) 2 (length shape.now.tree.cliques - 1) tables.items) }
-{
-    let mut tables = Vec::new(alloc);
-    for passed in 0..shape.cliques() - 1 {
-        tables.push(Table::ones(alloc, shape.separator(passed + 2))?)?;
-    }
-    Ok(tables)
 }
 
 /// How many cells all cliques have.

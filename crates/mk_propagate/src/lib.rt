@@ -1,6 +1,7 @@
 //! Messages in a tree of cliques: what is placed in the cliques, the messages between them, and what is read from both.
 #![tactic(auto)]
 
+mod board;
 mod collect;
 mod flow;
 mod gathered;

@@ -1,19 +1,21 @@
 //! The shape of a flow.
 
-ghost use Rattle.std.specs.Prelude.{◌≡◌, ◌≢◌, ℕ, ◌+◌, ◌-◌, ◌<◌, ◌≤◌, ◌&&◌, ◌==◌, nat_lt, nat_le, [], length, map, filter, true, if◌then◌else◌, IfOk, IfSome};
+ghost use Rattle.std.specs.Prelude.{◌≡◌, ◌≢◌, ℕ, ◌+◌, ◌-◌, ◌<◌, ◌≤◌, ◌&&◌, ◌==◌, ◌++◌, nat_lt, nat_le, [], length, map, filter, true, if◌then◌else◌, IfOk, IfSome};
 ghost use Rattle.std.specs.List.{range_with_len, list_all, list_any};
 ghost use Rattle.mk_net.specs.declared.words.Pair.{Pair};
 ghost use Rattle.mk_tree.specs.Given.{holds, home, holds_event, clique_at};
 ghost use Rattle.mk_sums.specs.Trees.{linked_to};
 ghost use Rattle.mk_tree.specs.Given.{AreLinked, link_of};
 ghost use Rattle.mk_tree.specs.Checked.{IsTreeOf};
-ghost use Rattle.mk_table.specs.Scopes.{LiesIn};
+ghost use Rattle.mk_scope.specs.Scopes.{LiesIn};
 ghost use Rattle.mk_propagate.specs.Shapes.{IsShapeFor, IsClique, AreNextTo, clique_scope, core_scope, separator_scope, separator_between, are_linked, in_core, neighbours, next_on_way};
 ghost use Rattle.mk_net.specs.Sets.{is_member};
 ghost use Rattle.mk_propagate.specs.inner.Shaped.{scopes_of_cliques, scopes_of_cores, scopes_of_separators, lists_of_neighbours, AreWays, AreStarts, StartsAt, CanPlaceSeparators, CanPlaceCores, whole_of, places_of, core_places_of, shape_of};
+ghost use Rattle.mk_propagate.specs.inner.Shaped.{all_scopes, scopes_of, HasEach};
 
 use mk_net::{Event, Network, NoMemory, Pair, VarSet};
-use mk_table::{CellList, Places, Scope};
+use mk_scope::{CellList, Places, Scope};
+use mk_table::Scopes;
 use mk_tree::Tree;
 use std::alloc::Global;
 use std::marker::Model;
@@ -30,6 +32,8 @@ pub struct Shape {
     cliques: Vec<Rc<Scope>>,
     cores: Vec<Rc<Scope>>,
     separators: Vec<Rc<Scope>>,
+    // Of all tables of a flow.
+    scopes: Rc<Scopes>,
     in_cliques: Vec<Places>,
     in_links: Vec<Places>,
     in_whole: Vec<Places>,
@@ -58,7 +62,7 @@ impl Model for Shape {
       cliques = map (λ scope. scope.value) s.cliques.items;
       cores = map (λ scope. scope.value) s.cores.items;
       separators = map (λ scope. scope.value) s.separators.items;
-    }) s.in_cliques.items s.in_links.items s.in_whole.items s.in_itself.items (map (λ list. list.items) s.neighbours.items) (map (λ next. next.items) s.ways.items) s.starts.items };
+    }) s.scopes.value s.in_cliques.items s.in_links.items s.in_whole.items s.in_itself.items (map (λ list. list.items) s.neighbours.items) (map (λ next. next.items) s.ways.items) s.starts.items };
 }
 
 impl Shape {
@@ -77,11 +81,13 @@ impl Shape {
         let in_links = separator_places(alloc, tree, &cores, &separators, true)?;
         let in_whole = core_places(alloc, tree, &cliques, &cores)?;
         let in_itself = core_places(alloc, tree, &cores, &cores)?;
+        let scopes = all_scopes(alloc, &cliques, &cores, &separators)?;
         Ok(Shape {
             tree: tree.copy(alloc)?,
             cliques,
             cores,
             separators,
+            scopes: Rc::new(alloc, Scopes::of(scopes))?,
             in_cliques,
             in_links,
             in_whole,
@@ -153,6 +159,14 @@ impl Shape {
         ensures { result.now.value ≡ separator_scope self.now k }
     {
         &self.separators[k as usize - 2]
+    }
+
+    /// The scopes of a flow's tables: of the cliques, their cores, the products there, and the messages up and down.
+    pub(crate) fn scopes(&self) -> &Rc<Scopes>
+        ensures scopes { result.now.value ≡ scopes_of self.now }
+        ensures each { HasEach self.now }
+    {
+        &self.scopes
     }
 
     /// Where the cells of the separator between two cliques that are linked lie in the core of the first.
@@ -350,6 +364,36 @@ fn separator_scopes(alloc: Global, net: &Network, tree: &Tree) -> Result<Vec<Rc<
         scopes.push(Rc::new(alloc, scope)?)?;
     }
     Ok(scopes)
+}
+
+/// Those of the cliques and of their cores, of the cores again, and of the separators twice.
+fn all_scopes(
+    alloc: Global,
+    cliques: &[Rc<Scope>],
+    cores: &[Rc<Scope>],
+    separators: &[Rc<Scope>],
+) -> Result<Vec<Rc<Scope>>, NoMemory>
+    ensures { IfOk result (λ scopes. map (λ scope. scope.value) scopes.items
+        ≡ all_scopes (map (λ scope. scope.value) cliques.now) (map (λ scope. scope.value) cores.now)
+        (map (λ scope. scope.value) separators.now)) }
+{
+    let mut scopes = Vec::new(alloc);
+    append(&mut scopes, cliques)?;
+    append(&mut scopes, cores)?;
+    append(&mut scopes, cores)?;
+    append(&mut scopes, separators)?;
+    append(&mut scopes, separators)?;
+    Ok(scopes)
+}
+
+fn append(scopes: &mut Vec<Rc<Scope>>, more: &[Rc<Scope>]) -> Result<(), NoMemory>
+    ensures { IfOk result (λ _. map (λ scope. scope.value) scopes.new.items
+        ≡ map (λ scope. scope.value) scopes.old.items ++ map (λ scope. scope.value) more.now) }
+{
+    for scope in more {
+        scopes.push(scope.clone()?)?;
+    }
+    Ok(())
 }
 
 /// Where the cells of each separator lie in the core of its clique, or of the clique's link.

@@ -1,20 +1,38 @@
 -- Tables of a list: what their code reads, and what it makes of one.
-use Rattle.std.proofs.Common.{inl, ◌≡◌, ℕ, ◌+◌, ◌*◌, ◌<◌, ◌≤◌, List, length, set, refl, sym, ap, subst, ◌∙◌, arith}
+use Rattle.std.proofs.Common.{inl, ◌≡◌, ℕ, ◌<◌, ◌≤◌, List, length, set, refl, sym, ap, subst, ◌∙◌, arith, slice_index}
 use Rattle.std.specs.Prelude.{Option, None, [], replicate}
 use Rattle.std.proofs.lemmas.List.{get_or-set_same, get_or-set_other, set-set}
 use Rattle.mk_net.specs.declared.words.Pair.{Pair}
-use Rattle.mk_table.specs.Scopes.{ScopeOf, cells_in}
+use Rattle.mk_scope.specs.Scopes.{ScopeOf, cells_in}
 use Rattle.mk_table.specs.Tables.{TableOf, HasNumbers}
 use Rattle.mk_table.specs.Lists.{IsOnes, no_table, table_in}
 use Rattle.mk_table.specs.declared.store.Head.{Head}
-use Rattle.mk_table.specs.inner.Parts.{IsFull, AreNumbers}
-use Rattle.mk_table.specs.inner.Blank.{one_digits, one_exponent, filled}
+use Rattle.mk_passes.specs.Parts.{IsFull}
+use Rattle.mk_table.specs.inner.Numbers.{AreNumbers}
+use Rattle.mk_passes.specs.Blank.{one_digits, one_exponent, filled}
 use Rattle.mk_table.specs.inner.Touched.{HasTouched}
-use Rattle.mk_table.proofs.Filled.{filled_empty}
-use Rattle.mk_table.proofs.OnesSum.{ones_numbers}
+use Rattle.mk_passes.proofs.Filled.{filled_empty, filled_length, one_at}
 use Rattle.mk_table.specs.inner.Store.{AreScopes, IsStore, tables_of, table_of, head_in, scope_in, with_cells, with_ratios}
 use Rattle.mk_table.proofs.Stored.{table_at, tables_length, table_is_full, table_scope, table_shift, table_touched}
-use Rattle.mk_table.proofs.Whole.{AreParts, parts_of, touched_cells}
+use Rattle.mk_table.proofs.Whole.{AreParts, touched_cells}
+use Rattle.mk_cell.specs.Cell.{StandsAt}
+use Rattle.mk_passes.proofs.OnesSum.{one_stands}
+
+-- a table of which nothing is written
+pub ones_numbers : (scope : ScopeOf) (d e : List ℕ) → length d ≡ 0 → length e ≡ 0
+    → HasNumbers (record { scope = scope; shift = 0; digits = filled one_digits (cells_in scope) d; exponents = filled one_exponent (cells_in scope) e; touched = None }) (λ c. 1) 0
+ones_numbers scope d e h t = record {
+  stand = record { each = λ c l. at c (omega (arith, l, long)) };
+  own = λ c l o. record { own = 1; scaled = omega arith; stands = at c (omega (arith, l, long)) };
+}
+  where
+    long : length (filled one_digits (cells_in scope) d) ≡ cells_in scope
+    long = filled_length one_digits (cells_in scope) d (omega (arith, h))
+
+    at : (c : ℕ) → c < cells_in scope → StandsAt 0 (slice_index (filled one_digits (cells_in scope) d) c) (slice_index (filled one_exponent (cells_in scope) e) c) 1 0
+    at c l =
+        subst (λ y. StandsAt 0 y (slice_index (filled one_exponent (cells_in scope) e) c) 1 0) (sym (one_at one_digits (cells_in scope) c d h l))
+        (subst (λ y. StandsAt 0 one_digits y 1 0) (sym (one_at one_exponent (cells_in scope) c e t l)) one_stands)
 
 pub seen_within : (scopes : List ScopeOf) (heads : List Head) (d e : List ℕ) (now : List TableOf) → tables_of scopes heads d e ≡ now → (k : ℕ) → k < length now → k < length scopes
 seen_within scopes heads d e now view k l = let i = tables_length scopes heads d e in let j = ap (λ (ts : List TableOf). length ts) view in omega (arith, i, j, l)

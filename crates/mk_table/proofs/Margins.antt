@@ -1,5 +1,5 @@
 -- Margins of tables, by the cells of their parts.
-use Rattle.std.proofs.Common.{◌≡◌, ℕ, ◌+◌, ◌-◌, ◌*◌, ◌/◌, ◌^◌, ◌<◌, ◌≤◌, Bool, true, false, ◌==◌, ◌⊎◌, inl, inr, List, length, slice_index, All, refl, sym, ap, subst, ◌∙◌, arith}
+use Rattle.std.proofs.Common.{◌≡◌, ℕ, ◌+◌, ◌-◌, ◌*◌, ◌/◌, ◌^◌, ◌<◌, Bool, true, false, ◌==◌, ◌⊎◌, inl, inr, List, length, slice_index, All, refl, sym, ap, subst, ◌∙◌, arith}
 use Rattle.std.specs.Prelude.{Option, Some, Vec, vec_len}
 use Rattle.std.specs.Vec.{with_items}
 use Rattle.std.proofs.lemmas.Bool.{cases_Bool, eqb-true}
@@ -10,19 +10,22 @@ use Rattle.mk_states.specs.States.{plus_over}
 use Rattle.mk_states.proofs.Sums.{plus_over-map}
 use Rattle.mk_sums.specs.There.{holds_there}
 use Rattle.mk_cell.specs.Cell.{StandsAt, IsOwnAt}
-use Rattle.mk_table.specs.Scopes.{ScopeOf, LiesIn, HasEvent, cells_in}
-use Rattle.mk_table.specs.Cells.{values_at, cell_in, cells_onto, cells_beside, cells_where}
+use Rattle.mk_scope.specs.Scopes.{ScopeOf, LiesIn, HasEvent, cells_in}
+use Rattle.mk_scope.specs.Cells.{values_at, cell_in, cells_onto, cells_beside, cells_where}
 use Rattle.mk_table.specs.Tables.{TableOf, HasNumbers, touches, is_touched}
 use Rattle.mk_table.specs.Margins.{IsMarginBut}
-use Rattle.mk_table.specs.inner.Parts.{IsTable, IsAmong, StandListed, AreNumbers, ArePlaces, AreMadeAnew}
-use Rattle.mk_table.specs.inner.Blank.{one_digits, one_exponent, filled}
+use Rattle.mk_scope.specs.Runs.{IsAmong}
+use Rattle.mk_passes.specs.Parts.{StandListed, AreMadeAnew}
+use Rattle.mk_table.specs.inner.Numbers.{AreNumbers}
+use Rattle.mk_scope.specs.Places.{ArePlaces}
+use Rattle.mk_passes.specs.Blank.{one_digits, one_exponent, filled}
 use Rattle.mk_table.specs.inner.Touched.{HasTouched, IsPart, IsEither, IsWithin}
-use Rattle.mk_table.proofs.Chosen.{among_chosen, none_among, chosen_pass}
-use Rattle.mk_table.proofs.Filled.{all_full, filled_full}
-use Rattle.mk_table.proofs.Onto.{places_beside}
+use Rattle.mk_scope.proofs.Chosen.{among_chosen, none_among, chosen_pass}
+use Rattle.mk_scope.proofs.Onto.{places_beside}
 use Rattle.mk_table.proofs.Owned.{own_is, own_stands, plus_scaled}
 use Rattle.mk_table.proofs.Untouched.{touched_in, part_holds, false_before}
-use Rattle.mk_table.proofs.Whole.{AreParts, AreWritten, ArePluses, All_unmap, table_full, parts_of, touched_cells, has_after}
+use Rattle.mk_table.proofs.Whole.{AreParts, AreWritten, ArePluses, touched_cells, has_after}
+use Rattle.mk_scope.proofs.Reached.{All_unmap}
 
 -- ---- tables by their parts
 
@@ -33,14 +36,6 @@ parts_same t scope shift d e are =
     ∙ ap (λ k. record { scope = t.scope; shift = k; digits = d; exponents = e; touched = t.touched }) are.shift_is
     ∙ ap (λ (ys : List ℕ). record { scope = t.scope; shift = t.shift; digits = ys; exponents = e; touched = t.touched }) are.digits_are
     ∙ ap (λ (ys : List ℕ). record { scope = t.scope; shift = t.shift; digits = t.digits; exponents = ys; touched = t.touched }) are.exponents_are
-
--- the parts of a table of which each cell is written
-pub full_parts : (t : TableOf) (scope : ScopeOf) (shift : ℕ) (di ei : List ℕ) (r s : ℕ) (touched : Option (List Pair))
-    → record { scope = scope; shift = shift; digits = filled one_digits (cells_in scope) di; exponents = filled one_exponent (cells_in scope) ei; touched = touched } ≡ t → IsTable scope di ei r s touched
-    → cells_in scope ≤ length di → (d e : List ℕ) → d ≡ di → e ≡ ei → AreParts t t.scope shift d e
-full_parts t scope shift di ei r s touched same is long d e i j =
-    parts_of _ t t.scope d e same (table_full scope di ei r s touched is) is.there (sym (ap (λ (u : TableOf). u.scope) same)) (i ∙ sym (filled_full one_digits (cells_in scope) di long))
-    (j ∙ sym (filled_full one_exponent (cells_in scope) ei (all_full (cells_in scope) di ei is.held.whole long)))
 
 -- ---- the cells of a whole that have the values of one cell of a part
 

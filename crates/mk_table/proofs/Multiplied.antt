@@ -9,16 +9,17 @@ use Rattle.mk_sums.specs.There.{holds_there}
 use Rattle.mk_cell.specs.declared.cell.Cell.{Cell}
 use Rattle.mk_cell.specs.Cell.{Stands, StandsAt, IsOwnAt}
 use Rattle.mk_cell.specs.inner.Laws.{stands_with_more}
-use Rattle.mk_table.specs.Scopes.{LiesIn, cells_in}
-use Rattle.mk_table.specs.Cells.{values_at, cell_in}
+use Rattle.mk_scope.specs.Scopes.{LiesIn, cells_in}
+use Rattle.mk_scope.specs.Cells.{values_at, cell_in}
 use Rattle.mk_table.specs.Tables.{TableOf, HasNumbers, is_touched, is_untouched}
-use Rattle.mk_table.specs.inner.Blank.{one_digits, one_exponent, filled}
-use Rattle.mk_table.specs.inner.Parts.{StandPairs, StandListed, IsPlusOfPairs, cells_at}
+use Rattle.mk_passes.specs.Blank.{one_digits, one_exponent, filled}
+use Rattle.mk_passes.specs.Parts.{StandPairs, StandListed, IsPlusOfPairs}
+use Rattle.mk_scope.specs.Runs.{cells_at}
 use Rattle.mk_table.specs.inner.Touched.{HasTouched}
-use Rattle.mk_table.proofs.Chosen.{chosen_pass, chosen_few}
-use Rattle.mk_table.proofs.Kept.{cell_within}
+use Rattle.mk_scope.proofs.Chosen.{chosen_pass, chosen_few}
+use Rattle.mk_scope.proofs.Kept.{cell_within}
 use Rattle.mk_table.proofs.Owned.{own_is, own_stands, scaled_times, plus_scaled}
-use Rattle.mk_table.proofs.Paired.{blank_others, cells_zero, full_made}
+use Rattle.mk_passes.proofs.Paired.{blank_others, cells_zero, full_made}
 use Rattle.mk_table.proofs.Untouched.{touched_in, untouched_there}
 
 module _ (t m : TableOf) (passes : ℕ → Bool) (lies : LiesIn m.scope t.scope) where

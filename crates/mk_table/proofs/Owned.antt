@@ -9,8 +9,9 @@ use Rattle.mk_states.specs.States.{plus_over}
 use Rattle.mk_cell.specs.Cell.{StandsAt, IsOwnAt}
 use Rattle.mk_cell.specs.inner.Laws.{stands_with_more}
 use Rattle.mk_cell.proofs.Standing.{absent_stands}
-use Rattle.mk_table.specs.inner.Parts.{IsTimes, IsTimesCell, IsChanged, IsRestricted, StandListed, AreNumbers}
-use Rattle.mk_table.proofs.Changes.{times_whole, times_some, kept_all}
+use Rattle.mk_passes.specs.Parts.{IsTimes, IsTimesCell, IsChanged, IsRestricted, StandListed}
+use Rattle.mk_table.specs.inner.Numbers.{AreNumbers}
+use Rattle.mk_passes.proofs.Changes.{times_whole, times_some, kept_all}
 
 -- ---- one cell
 

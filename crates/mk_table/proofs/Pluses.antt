@@ -1,44 +1,19 @@
 -- The plus of products of a table's cells by another's, for each cell of a third.
-use Rattle.std.proofs.Common.{◌≡◌, ℕ, ◌+◌, ◌-◌, ◌*◌, ◌<◌, true, false, ◌==◌, List, length, slice_index, All, sym, ap, subst, ◌∙◌, arith}
+use Rattle.std.proofs.Common.{◌≡◌, ℕ, ◌+◌, ◌*◌, ◌<◌, true, false, ◌==◌, List, length, slice_index, sym, ap, subst, ◌∙◌, arith}
 use Rattle.std.specs.Prelude.{Option}
 use Rattle.std.proofs.lemmas.Bool.{eqb-true}
-use Rattle.std.proofs.lemmas.List.Elements.{All-weaker}
 use Rattle.mk_net.specs.declared.words.Pair.{Pair}
 use Rattle.mk_states.specs.Lawful.{Lawful}
 use Rattle.mk_states.specs.States.{plus_over}
-use Rattle.mk_states.proofs.Sums.{plus_over-map}
-use Rattle.mk_cell.specs.Cell.{StandsAt}
-use Rattle.mk_cell.specs.inner.Laws.{stands_with_more}
-use Rattle.mk_table.specs.Scopes.{ScopeOf, LiesIn, cells_in}
-use Rattle.mk_table.specs.Cells.{values_at, cell_in, cells_onto, cells_beside}
+use Rattle.mk_scope.specs.Scopes.{ScopeOf, LiesIn, cells_in}
+use Rattle.mk_scope.specs.Cells.{values_at, cell_in, cells_onto, cells_beside}
 use Rattle.mk_table.specs.Tables.{TableOf, HasNumbers, touches, is_touched}
-use Rattle.mk_table.specs.inner.Blank.{one_digits, one_exponent, filled}
-use Rattle.mk_table.specs.inner.Parts.{AreNumbers, IsFull, MakesPlusOfPairs, StandListed, cells_at}
+use Rattle.mk_table.specs.inner.Numbers.{AreNumbers}
+use Rattle.mk_passes.specs.Parts.{IsFull, MakesPlusOfPairs}
 use Rattle.mk_table.specs.inner.Touched.{HasTouched, IsEitherWithin}
-use Rattle.mk_table.proofs.Chosen.{chosen_pass}
 use Rattle.mk_table.proofs.Multiplied.{table_pairs, table_own}
-use Rattle.mk_table.proofs.Paired.{blank_products}
 use Rattle.mk_table.proofs.Untouched.{touched_in, false_before}
-use Rattle.mk_table.proofs.Whole.{AreParts, All_unmap, touched_cells}
-
--- ---- where nothing is written of the other table
-
-pub each_onto : (part whole : ScopeOf) (d : ℕ) (P : ℕ → Type 0) → ((c : ℕ) → c < cells_in whole → P c) → All P (cells_onto part whole d)
-each_onto part whole d P h =
-    All-weaker (λ c. ((cell_in part whole c == d) ≡ true) × (c < cells_in whole)) P (λ c p. h c p.1) (cells_onto part whole d) (chosen_pass (λ c. cell_in part whole c == d) (cells_in whole))
-
-module _ (plus : ℕ → ℕ → ℕ) (d e md me : List ℕ) (goes : ℕ → ℕ) (base : ℕ) (offsets onto : List ℕ) (onto_is : cells_at base offsets ≡ onto) (beside : ℕ) (long : length offsets ≡ beside) (q x : ℕ) where
-  pub blank_made : (count : ℕ) (xs ys : List ℕ) → md ≡ filled one_digits count xs → me ≡ filled one_exponent count ys → length xs ≡ 0 → length ys ≡ 0 → All (λ c. goes c < count) onto
-      → ((k : ℕ) (f : ℕ → ℕ) (n : ℕ) → StandListed k d e f n base offsets → StandsAt k q x (plus_over plus 0 (λ c. f (base + c)) offsets) (n + (2 * length offsets - 1)))
-      → MakesPlusOfPairs plus d e md me goes onto (2 * beside + 1) q x
-  blank_made count xs ys a b h t within made = λ j k f g n p pairs.
-      let product : ℕ → ℕ = λ c. f c * g c in
-      let all = blank_products d e md me onto goes count xs ys a b h t within j k f g n p pairs in
-      let P : ℕ → Type 0 = λ c. StandsAt (j + k) (slice_index d c) (slice_index e c) (product c) (n + p + 1) in
-      let listed : StandListed (j + k) d e product (n + p + 1) base offsets = record { listed = All_unmap P (λ c. base + c) offsets (subst (λ (zs : List ℕ). All P zs) (sym onto_is) all) } in
-      let same : plus_over plus 0 (λ c. product (base + c)) offsets ≡ plus_over plus 0 product onto = sym (plus_over-map plus 0 product (λ c. base + c) offsets) ∙ ap (plus_over plus 0 product) onto_is in
-      stands_with_more (j + k) q x (plus_over plus 0 product onto) (n + p + 1 + (2 * length offsets - 1)) (n + p + (2 * beside + 1)) (omega (arith, long))
-      (subst (λ v. StandsAt (j + k) q x v (n + p + 1 + (2 * length offsets - 1))) same (made (j + k) product (n + p + 1) listed))
+use Rattle.mk_table.proofs.Whole.{AreParts, touched_cells}
 
 -- ---- the numbers of all cells
 

@@ -1,17 +1,17 @@
 -- Cells of a table that are written: over what is there, or at the end of the arrays.
-use Rattle.std.proofs.Common.{◌≡◌, ℕ, ◌+◌, ◌-◌, ◌<◌, ◌≤◌, ◌⊎◌, inl, inr, List, ◌++◌, length, replicate, take, drop, set, get_or, refl, sym, ap, subst, ◌∙◌, arith}
+use Rattle.std.proofs.Common.{◌≡◌, ℕ, ◌+◌, ◌-◌, ◌<◌, ◌≤◌, inl, inr, List, ◌++◌, length, replicate, take, drop, set, refl, sym, ap, subst, ◌∙◌, arith}
 use borrow.Rule.Slice.PartMut.{put_mid}
 use Rattle.std.specs.Prelude.{Vec, Option, vec_len}
 use Rattle.std.specs.Vec.{with_items}
 use Rattle.std.proofs.lemmas.List.{with_items_is, length-append, length-take-le, length-drop, get_or-set_same, set-get_or}
-use Rattle.mk_table.specs.Scopes.{ScopeOf, cells_in}
+use Rattle.mk_scope.specs.Scopes.{ScopeOf, cells_in}
 use Rattle.mk_table.specs.Tables.{TableOf}
 use Rattle.mk_table.specs.Lists.{no_table, table_in}
 use Rattle.mk_table.specs.declared.store.Place.{Place}
 use Rattle.mk_table.specs.declared.store.Place.TheVariants.{Nowhere, Blank, Written}
 use Rattle.mk_table.specs.declared.store.Head.{Head}
-use Rattle.mk_table.specs.inner.Blank.{one_digits, one_exponent, filled}
-use Rattle.mk_table.specs.inner.Parts.{IsChanged, HaveRoom}
+use Rattle.mk_passes.specs.Blank.{one_digits, one_exponent, filled}
+use Rattle.mk_passes.specs.Parts.{IsChanged, HaveRoom}
 use Rattle.mk_table.specs.inner.Touched.{HasTouched}
 use Rattle.mk_table.specs.inner.Store.{IsStore, StandsFrom, missing, tables_of, table_of, cells_from, head_in, scope_in, no_head, with_cells}
 use Rattle.mk_table.proofs.Stored.{LeavesOthers, mid_length, mid_leaves, mid_own, end_leaves, end_own, stands_once, table_at, changed_tables, changed_store}

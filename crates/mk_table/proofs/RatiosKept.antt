@@ -1,12 +1,12 @@
 -- What calls make of the ratios of a table, and that a table whose ratios have a pair in common is untouched by an event that gives its variable another value.
-use Rattle.std.proofs.Common.{◌≡◌, ◌≢◌, ℕ, zero, suc, ◌+◌, ◌*◌, Bool, true, false, not, ◌==◌, ◌&&◌, ◌||◌, ◌⊎◌, inl, inr, List, [], ◌∷◌, refl, sym, ap, subst, ◌∙◌, arith, ne_eqb, eq-eqb}
+use Rattle.std.proofs.Common.{◌≡◌, ◌≢◌, ℕ, ◌+◌, ◌*◌, true, not, ◌==◌, ◌&&◌, ◌||◌, ◌⊎◌, inl, inr, List, [], ◌∷◌, refl, sym, ap, subst, ◌∙◌, arith, ne_eqb, eq-eqb}
 use Rattle.std.specs.Prelude.{Option, Some, None}
 use Rattle.std.specs.List.{Contains}
 use Rattle.std.proofs.lemmas.Bool.{or_cases, or_left, or_right, and_parts, and_from, eqb-true, false≢true, not_from_false}
 use Rattle.std.proofs.lemmas.List.Folds.{list_any_at}
 use Rattle.mk_net.specs.declared.words.Pair.{Pair}
-use Rattle.mk_table.specs.Scopes.{ScopeOf, has_variable}
-use Rattle.mk_table.specs.Tables.{TableOf, contradicts, contradicts_pair, is_untouched_by}
+use Rattle.mk_scope.specs.Scopes.{ScopeOf, has_variable}
+use Rattle.mk_table.specs.Tables.{TableOf, contradicts_pair, is_untouched_by}
 use Rattle.mk_table.specs.Ratios.{has_pair, keeps, KeepsPairs, HasRatios}
 
 -- where there is no event, each pair is kept

@@ -1,24 +1,24 @@
 -- All tables in two arrays: what a change of one leaves of the others.
-use Rattle.std.proofs.Common.{◌≡◌, ◌≢◌, ℕ, zero, suc, ◌+◌, ◌-◌, ◌*◌, ◌<◌, ◌≤◌, ◌⊎◌, inl, inr, List, [], ◌∷◌, ◌++◌, map, length, replicate, take, drop, set, get_or, refl, sym, ap, subst, ◌∙◌, arith}
+use Rattle.std.proofs.Common.{◌≡◌, ◌≢◌, ℕ, zero, suc, ◌+◌, ◌-◌, ◌<◌, ◌≤◌, ◌⊎◌, inl, inr, List, [], ◌∷◌, ◌++◌, map, length, replicate, take, drop, set, get_or, refl, sym, ap, subst, ◌∙◌, arith}
 use borrow.Rule.Slice.PartMut.{put_mid}
 use Rattle.std.proofs.Math.ListN.{get_or-map}
 use Rattle.std.proofs.lemmas.Bool.{cases_eq}
-use Rattle.std.proofs.lemmas.List.{length-set, length-take-le, length-drop, length-append, length-replicate, ext_get_or, get_or-take, get_or-drop, get_or_append_left, get_or-append_right, get_or-set_same, get_or-set_other, set-get_or, take_all, drop_at, nil_from_length, set-set, get_or_read, length-map, get_or_default, at_drop_more, at_drop_all}
+use Rattle.std.proofs.lemmas.List.{length-set, length-take-le, length-drop, length-append, length-replicate, ext_get_or, get_or-take, get_or-drop, get_or_append_left, get_or-append_right, get_or-set_same, get_or-set_other, set-get_or, take_all, drop_at, nil_from_length, get_or_read, length-map, get_or_default, at_drop_more, at_drop_all}
 use Rattle.std.proofs.lemmas.List.FromFn.{length-map-range_with_len, get_or-map-range_with_len, fill_by_all}
 use Rattle.std.specs.Prelude.{Option, true, false}
 use Rattle.mk_net.specs.declared.words.Pair.{Pair}
 use Rattle.mk_states.specs.States.{numbers_below}
-use Rattle.mk_table.specs.Scopes.{ScopeOf, cells_in}
+use Rattle.mk_scope.specs.Scopes.{ScopeOf, cells_in}
 use Rattle.mk_table.specs.Tables.{TableOf}
 use Rattle.mk_table.specs.Lists.{no_scope, no_table, table_in}
 use Rattle.mk_table.specs.declared.store.Place.{Place}
 use Rattle.mk_table.specs.declared.store.Place.TheVariants.{Nowhere, Blank, Written}
 use Rattle.mk_table.specs.declared.store.Head.{Head}
-use Rattle.mk_table.specs.inner.Blank.{one_digits, one_exponent, filled}
-use Rattle.mk_table.specs.inner.Parts.{IsFull, AreBlankOrFull}
+use Rattle.mk_passes.specs.Blank.{one_digits, one_exponent, filled}
+use Rattle.mk_passes.specs.Parts.{IsFull, AreBlankOrFull}
 use Rattle.mk_table.specs.inner.Touched.{HasTouched}
 use Rattle.mk_table.specs.inner.Store.{IsStore, StandsFrom, LieApart, all_missing, missing, tables_of, table_of, cells_from, head_in, scope_in, no_head, with_cells, with_ratios, is_written}
-use Rattle.mk_table.proofs.Filled.{filled_full}
+use Rattle.mk_passes.proofs.Filled.{filled_full}
 
 -- ---- lists that are made by number
 

@@ -1,17 +1,16 @@
 -- Pairs of an event that are taken one by one, and what an event keeps of the pairs that ratios have in common.
-use Rattle.std.proofs.Common.{◌≡◌, ℕ, zero, suc, ◌+◌, ◌<◌, ◌≤◌, Bool, true, false, ◌==◌, ◌&&◌, ◌||◌, ◌⊎◌, inl, inr, List, [], ◌∷◌, ◌++◌, length, take, get_or, All, refl, sym, ap, subst, ◌∙◌, arith}
+use Rattle.std.proofs.Common.{◌≡◌, ℕ, zero, suc, ◌+◌, ◌<◌, Bool, true, false, ◌==◌, ◌&&◌, ◌||◌, ◌⊎◌, inl, inr, List, [], ◌∷◌, ◌++◌, length, take, get_or, refl, sym, ap, subst, ◌∙◌, arith}
 use Rattle.std.specs.Prelude.{Option, Some, None}
-use Rattle.std.proofs.Math.Seq.{take-length}
 use Rattle.std.proofs.lemmas.Bool.{both_ways, or_cases, or_parts, or_from, or_left, or_right, and_parts, and_from, eqb-true, eq-eqb, false≢true, false_from_ne_true}
 use Rattle.std.proofs.lemmas.List.{length_push}
 use Rattle.std.proofs.lemmas.List.Folds.{list_any_more, list_any-append}
-use Rattle.std.proofs.lemmas.List.Elements.{All-nil, All-push, All-head, All-tail, All-weaker}
+use Rattle.std.proofs.lemmas.List.Elements.{All-push, All-head, All-tail, All-weaker}
 use Rattle.mk_net.specs.declared.words.Pair.{Pair}
 use Rattle.mk_net.specs.Bounds.{max_pairs}
 use Rattle.mk_net.specs.Events.{speaks_of, AreApart, IsEvent}
 use Rattle.mk_net.proofs.Events.{same_place}
-use Rattle.mk_table.specs.Scopes.{ScopeOf, has_variable}
-use Rattle.mk_table.specs.Ratios.{has_pair, keeps, KeepsPairs}
+use Rattle.mk_scope.specs.Scopes.{ScopeOf, has_variable}
+use Rattle.mk_table.specs.Ratios.{has_pair, KeepsPairs}
 use Rattle.mk_table.specs.inner.Touched.{IsPart, AreTaken}
 
 -- two pairs that have the same numbers
@@ -58,13 +57,6 @@ not_before (p ∷ ps) (suc i) d a l =
     or_from (x == p.variable) (speaks_of (take i ps) x) (later_apart p.variable ps i d a.0 (omega arith)) (not_before ps i d a.1 (omega arith))
 
 -- ---- one pair more
-
-pub taken_none : (event : List Pair) (test : Pair → Bool) → AreTaken event 0 test []
-taken_none event test = record {
-  few = omega arith;
-  of_these = All-nil (λ (p : Pair). has_pair (take 0 event) p ≡ true);
-  all = λ p t k. k;
-}
 
 module _ (event : List Pair) (i : ℕ) (d : Pair) (test : Pair → Bool) (taken : List Pair) (l : i < length event) (h : AreTaken event i test taken) where
   abbrev pair : Pair
@@ -118,10 +110,6 @@ module _ (event items : List Pair) (i : ℕ) (d : Pair) (test : Pair → Bool) (
   pub passed_step : AreTaken event i test taken → test (get_or items i d) ≡ false → AreTaken event (i + 1) test taken
   passed_step h fails = subst (λ (ev : List Pair). AreTaken ev i test taken → AreTaken ev (i + 1) test taken) e (λ have. taken_but items i d test taken l have fails) h
 
--- in the end all that pass are taken
-pub taken_all : (event : List Pair) (test : Pair → Bool) (taken : List Pair) (n : ℕ) → n ≡ length event → AreTaken event n test taken → (p : Pair) → has_pair event p ≡ true → test p ≡ true → has_pair taken p ≡ true
-taken_all event test taken n e h p k t = h.all p t (subst (λ (xs : List Pair). has_pair xs p ≡ true) (sym (ap (λ m. take m event) e ∙ take-length event)) k)
-
 -- ---- what becomes of an event that there may be
 
 pub stays : (scope : ScopeOf) (o : Option (List Pair)) → KeepsPairs scope o None o
@@ -132,10 +120,6 @@ begins scope o = record { none = λ _ e. e; pairs = λ p _ _ k. k }
 
 pub ends : (scope : ScopeOf) (first second : Option (List Pair)) → KeepsPairs scope first second None
 ends scope first second = record { none = λ _ _. refl; pairs = λ p _ _ _. refl }
-
--- an event that is made of one only, or of one and of what was made of another
-pub either_kept : (scope : ScopeOf) (first second after : Option (List Pair)) → KeepsPairs scope first None after → KeepsPairs scope first second after
-either_kept scope first second after h = record { none = λ e _. h.none e refl; pairs = λ p v k _. h.pairs p v k refl }
 
 pub onto_kept : (scope : ScopeOf) (first within second after : Option (List Pair)) → KeepsPairs scope first None within → KeepsPairs scope second within after → KeepsPairs scope first second after
 onto_kept scope first within second after h k = record { none = λ e f. k.none f (h.none e refl); pairs = λ p v a b. k.pairs p v b (h.pairs p v a refl) }

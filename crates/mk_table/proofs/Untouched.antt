@@ -7,12 +7,12 @@ use Rattle.std.proofs.lemmas.List.Sums.{list_all-from_AllPass}
 use Rattle.mk_net.specs.declared.words.Pair.{Pair}
 use Rattle.mk_sums.specs.There.{holds_there}
 use Rattle.mk_sums.proofs.Tables.{place_cell_of}
-use Rattle.mk_table.specs.Scopes.{ScopeOf, HasEvent, LiesIn, has_variable, size_in, cells_in}
-use Rattle.mk_table.specs.Cells.{values_at, cell_in}
+use Rattle.mk_scope.specs.Scopes.{ScopeOf, HasEvent, LiesIn, has_variable, size_in, cells_in}
+use Rattle.mk_scope.specs.Cells.{values_at, cell_in}
 use Rattle.mk_table.specs.Tables.{touches, contradicts, contradicts_pair, is_untouched_by}
 use Rattle.mk_table.specs.Ratios.{has_pair}
 use Rattle.mk_table.specs.inner.Touched.{HasTouched, IsPart, IsEither, IsBeside}
-use Rattle.mk_table.proofs.Kept.{value_in}
+use Rattle.mk_scope.proofs.Kept.{value_in}
 use Rattle.mk_table.proofs.Taken.{ends, both_keep}
 
 -- ---- parts of events

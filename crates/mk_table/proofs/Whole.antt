@@ -1,11 +1,9 @@
 -- What the calls of a table do to the numbers that its cells stand for.
-use Rattle.std.proofs.Common.{◌≡◌, ℕ, ◌+◌, ◌-◌, ◌*◌, ◌/◌, ◌^◌, ◌<◌, ◌≤◌, Bool, true, cond, ◌==◌, List, map, length, slice_index, All, sym, ap, subst, ◌∙◌, arith, zero-add}
-use Rattle.std.proofs.Math.ListN.{get_or-map}
+use Rattle.std.proofs.Common.{◌≡◌, ℕ, ◌+◌, ◌-◌, ◌*◌, ◌/◌, ◌^◌, ◌<◌, ◌≤◌, Bool, true, cond, ◌==◌, List, length, slice_index, All, sym, ap, subst, ◌∙◌, arith, zero-add}
 use Rattle.std.proofs.Math.Path.{fun_ext}
-use Rattle.std.specs.Prelude.{Vec, Option, Some, vec_len, vec_capacity}
+use Rattle.std.specs.Prelude.{Vec, Option, Some, vec_len}
 use Rattle.std.specs.Vec.{with_items}
 use Rattle.std.proofs.lemmas.Bool.{eqb-true}
-use Rattle.std.proofs.lemmas.List.{length-map}
 use Rattle.std.proofs.lemmas.List.Elements.{All-weaker}
 use Rattle.mk_net.specs.declared.words.Pair.{Pair}
 use Rattle.mk_net.specs.Asked.{TradeRatio}
@@ -15,17 +13,19 @@ use Rattle.mk_states.specs.Ratios.{units_of}
 use Rattle.mk_sums.specs.There.{holds_there, ratio_there}
 use Rattle.mk_cell.specs.Cell.{AllStand, StandsAt, IsOwnAt}
 use Rattle.mk_cell.specs.inner.Laws.{stands_with_more}
-use Rattle.mk_table.specs.Scopes.{ScopeOf, LiesIn, cells_in}
-use Rattle.mk_table.specs.Cells.{values_at, cell_in, cells_onto, cells_where}
+use Rattle.mk_scope.specs.Scopes.{ScopeOf, LiesIn, cells_in}
+use Rattle.mk_scope.specs.Cells.{values_at, cell_in, cells_where}
 use Rattle.mk_table.specs.Tables.{TableOf, HasNumbers, HasRoom, touches, is_untouched_by}
-use Rattle.mk_table.specs.inner.Parts.{IsFull, IsTable, HaveRoom, IsTimes, IsTimesCell, IsChanged, IsAmong, IsRestricted, StandListed, AreNumbers}
-use Rattle.mk_table.specs.inner.Blank.{one_digits, one_exponent, filled}
+use Rattle.mk_passes.specs.Parts.{IsFull, HaveRoom, IsTimes, IsTimesCell, IsChanged, IsRestricted, StandListed}
+use Rattle.mk_scope.specs.Runs.{IsAmong}
+use Rattle.mk_table.specs.inner.Numbers.{AreNumbers}
+use Rattle.mk_passes.specs.Blank.{one_digits, one_exponent, filled}
 use Rattle.mk_table.specs.inner.Touched.{HasTouched, IsEither, IsBeside}
-use Rattle.mk_table.proofs.Kept.{cell_within}
-use Rattle.mk_table.proofs.Filled.{at_most, filled_length, held_items, held_after}
+use Rattle.mk_scope.proofs.Kept.{cell_within}
+use Rattle.mk_passes.proofs.Filled.{held_items}
 use Rattle.mk_table.proofs.Untouched.{touched_in, untouched_there, false_before}
 use Rattle.mk_table.proofs.Owned.{rows_are, some_are, cells_are, kept_are, own_over}
-use Rattle.mk_table.proofs.Chosen.{among_chosen, none_among, chosen_pass}
+use Rattle.mk_scope.proofs.Chosen.{among_chosen, none_among, chosen_pass}
 
 -- a table's parts, as a call takes them
 pub record AreParts (t : TableOf) (scope : ScopeOf) (shift : ℕ) (digits exponents : List ℕ) : Type 0 where
@@ -35,12 +35,6 @@ pub record AreParts (t : TableOf) (scope : ScopeOf) (shift : ℕ) (digits expone
   pub exponents_are : exponents ≡ t.exponents
   pub full : IsFull t.scope t.digits t.exponents
   pub there : HasTouched t.scope t.touched
-
--- the arrays of a table, of which nothing may be written
-pub table_full : (scope : ScopeOf) (d e : List ℕ) (r s : ℕ) (touched : Option (List Pair)) → IsTable scope d e r s touched → IsFull scope (filled one_digits (cells_in scope) d) (filled one_exponent (cells_in scope) e)
-table_full scope d e r s touched h =
-    let few = at_most (cells_in scope) d e h.held.whole in
-    record { as_many_digits = filled_length one_digits (cells_in scope) d few.0; as_many_exponents = filled_length one_exponent (cells_in scope) e few.1 }
 
 -- the parts of a table whose view is v, as its code reads them
 pub parts_of : (v t : TableOf) (scope : ScopeOf) (digits exponents : List ℕ) → v ≡ t → IsFull v.scope v.digits v.exponents → HasTouched v.scope v.touched
@@ -182,23 +176,6 @@ put_numbers m part k md me others s scope same lies nd ne long digits_are expone
     within : (c : ℕ) → c < cells_in scope → cell_in part scope c < length md
     within c l = let full = parts_full m part k md me others in omega (arith, full.as_many_digits, cell_within part scope lies_too c l)
 
--- ---- sums
-
-pub All_unmap : (P : ℕ → Type 0) (f : ℕ → ℕ) (xs : List ℕ) → All P (map f xs) → All (λ x. P (f x)) xs
-All_unmap P f xs h k d l = subst P (get_or-map f xs k d) (h k (f d) (let m = length-map xs f in omega (arith, m)))
-
--- each of the cells that go to a cell of a part is a cell
-pub onto_within : (part whole : ScopeOf) (base : ℕ) (offsets : List ℕ) (d : ℕ) → map (λ c. base + c) offsets ≡ cells_onto part whole d → All (λ c. base + c < cells_in whole) offsets
-onto_within part whole base offsets d e =
-    All_unmap (λ c. c < cells_in whole) (λ c. base + c) offsets
-    (subst (λ (ys : List ℕ). All (λ c. c < cells_in whole) ys) (sym e)
-    (All-weaker (λ c. ((cell_in part whole c == d) ≡ true) × (c < cells_in whole)) (λ c. c < cells_in whole) (λ c h. h.1) (cells_onto part whole d) (chosen_pass (λ c. cell_in part whole c == d) (cells_in whole))))
-
-pub where_within : (scope : ScopeOf) (event : List Pair) → All (λ c. 0 + c < cells_in scope) (cells_where scope event)
-where_within scope event =
-    All-weaker (λ c. (holds_there event (values_at scope c) ≡ true) × (c < cells_in scope)) (λ c. 0 + c < cells_in scope) (λ c h. omega (arith, h.1)) (cells_where scope event)
-    (chosen_pass (λ c. holds_there event (values_at scope c)) (cells_in scope))
-
 -- each of two arrays' cells is the plus of the cells that lie so far from its base
 abbrev pub ArePluses : (ℕ → ℕ → ℕ) → List ℕ → List ℕ → List ℕ → List ℕ → List ℕ → List ℕ → Type 0
 ArePluses plus bases offsets od oe nd ne =
@@ -273,12 +250,3 @@ pub has_kept : {Y Z : Type 0} (v t : TableOf) → v ≡ t → (a : Vec ℕ Y) (b
     }) f n
 has_kept v t e a b nd ne w k f n h =
     has_after v t e a b nd ne w v.touched k f n (subst (λ (o : Option (List Pair)). AreNumbers (touched_cells o t.scope) k nd ne f n) (sym (ap (λ (u : TableOf). u.touched) e)) h)
-
--- the table that keeps the arrays that a call wrote
-pub table_after : {Y Z : Type 0} (scope : ScopeOf) (a : Vec ℕ Y) (b : Vec ℕ Z) (nd ne : List ℕ) (d e : List ℕ) (r s : ℕ) (before after : Option (List Pair)) → IsTable scope d e r s before
-    → AreWritten (cells_in scope) (vec_len a) (vec_len b) nd ne → vec_capacity a ≡ r → vec_capacity b ≡ s → HasTouched scope after
-    → IsTable scope (with_items a nd).items (with_items b ne).items (vec_capacity a) (vec_capacity b) after
-table_after scope a b nd ne d e r s before after h w i j t = record {
-  held = held_after (cells_in scope) a b nd ne w.digits w.exponents w.all_digits w.all_exponents (omega (arith, i, h.held.digits_fit)) (omega (arith, j, h.held.exponents_fit));
-  there = t;
-}

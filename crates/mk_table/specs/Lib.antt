@@ -1,5 +1,3 @@
-pub mod Scopes
-pub mod Cells
 pub mod Tables
 pub mod Ratios
 pub mod Margins

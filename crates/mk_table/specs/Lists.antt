@@ -1,6 +1,6 @@
 -- Lists of tables.
 use Rattle.std.specs.Prelude.{◌≡◌, ℕ, [], List, None, slice_index_or}
-use Rattle.mk_table.specs.Scopes.{ScopeOf}
+use Rattle.mk_scope.specs.Scopes.{ScopeOf}
 use Rattle.mk_table.specs.Tables.{TableOf, HasNumbers}
 
 abbrev pub no_scope : ScopeOf

@@ -4,8 +4,8 @@ use Rattle.mk_net.specs.declared.words.Pair.{Pair}
 use Rattle.mk_states.specs.States.{plus_over}
 use Rattle.mk_sums.specs.There.{holds_there}
 use Rattle.mk_cell.specs.Cell.{StandsAt, IsOwnAt}
-use Rattle.mk_table.specs.Scopes.{cells_in}
-use Rattle.mk_table.specs.Cells.{values_at, cells_onto, cells_beside}
+use Rattle.mk_scope.specs.Scopes.{cells_in}
+use Rattle.mk_scope.specs.Cells.{values_at, cells_onto, cells_beside}
 use Rattle.mk_table.specs.Tables.{TableOf, is_touched}
 
 -- But for cells that an event allows, a table over some of the variables of a whole has the pluses of the whole's numbers, under the whole's shift: so has each cell

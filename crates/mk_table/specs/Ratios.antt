@@ -2,7 +2,7 @@
 use Rattle.std.specs.Prelude.{◌≡◌, ℕ, ◌*◌, Bool, true, ◌==◌, ◌&&◌, List, Option, Some, None}
 use Rattle.std.specs.List.{list_any}
 use Rattle.mk_net.specs.declared.words.Pair.{Pair}
-use Rattle.mk_table.specs.Scopes.{ScopeOf, has_variable}
+use Rattle.mk_scope.specs.Scopes.{ScopeOf, has_variable}
 use Rattle.mk_table.specs.Tables.{TableOf}
 
 -- the pair is one of the pairs

@@ -1,11 +1,12 @@
 -- Tables of cells, and which numbers their cells stand for.
-use Rattle.std.specs.Prelude.{◌≡◌, ℕ, ◌+◌, ◌^◌, ◌<◌, ◌==◌, ◌&&◌, not, Bool, true, false, List, length, slice_index, Option, Some, None}
+use Rattle.std.specs.Prelude.{◌≡◌, ℕ, ◌+◌, ◌<◌, ◌==◌, ◌&&◌, not, Bool, true, false, List, length, slice_index, Option, Some, None}
 use Rattle.std.specs.List.{list_any}
 use Rattle.mk_net.specs.declared.words.Pair.{Pair}
 use Rattle.mk_sums.specs.There.{holds_there}
 use Rattle.mk_cell.specs.Cell.{AllStand, IsOwnAt}
-use Rattle.mk_table.specs.Scopes.{ScopeOf}
-use Rattle.mk_table.specs.Cells.{values_at}
+use Rattle.mk_scope.specs.Scopes.{ScopeOf}
+use Rattle.mk_scope.specs.Cells.{values_at}
+use Rattle.mk_passes.specs.Parts.{max_steps, max_shift}
 
 -- a table: its scope, how many places of two its cells are shifted by, the digits and the exponent of each cell, and an
 -- event without which no ratio touched a cell; where there is none, no ratio touched any
@@ -50,13 +51,6 @@ is_untouched_by (Some touched) event = contradicts touched event
 
 abbrev pub is_untouched : TableOf → List Pair → Bool
 is_untouched t event = is_untouched_by t.touched event
-
--- below these every cell leaves room for a product, and so does a product of two
-abbrev pub max_steps : ℕ
-max_steps = 2 ^ 19
-
-abbrev pub max_shift : ℕ
-max_shift = 2 ^ 24
 
 -- there is room for so many steps more
 pub record HasRoom (t : TableOf) (more : ℕ) : Type 0 where

@@ -1,7 +1,4 @@
 -- What only proofs and private contracts cite.
-pub mod Columns
-pub mod Strides
-pub mod Parts
-pub mod Blank
 pub mod Touched
+pub mod Numbers
 pub mod Store

@@ -2,10 +2,10 @@
 
 ghost use Rattle.std.specs.Prelude.{◌≡◌, ◌<◌, ◌≤◌, map, length, sum, take, All};
 ghost use Rattle.mk_net.specs.Bounds.{max_clique_cells};
-ghost use Rattle.mk_table.specs.Scopes.{IsScope, cells_in};
+ghost use Rattle.mk_scope.specs.Scopes.{IsScope, cells_in};
 ghost use Rattle.mk_table.specs.inner.Store.{AreScopes, scope_in};
 
-use crate::scope::Scope;
+use mk_scope::Scope;
 use std::marker::Model;
 use std::rc::Rc;
 
@@ -19,7 +19,7 @@ pub struct Scopes {
 
 impl Model for Scopes {
     ghost use Rattle.std.specs.Prelude.{List, map};
-    ghost use Rattle.mk_table.specs.Scopes.{ScopeOf};
+    ghost use Rattle.mk_scope.specs.Scopes.{ScopeOf};
     ghost use Rattle.mk_table.specs.inner.Store.{AreScopes};
 
     ghost Value = { List ScopeOf };

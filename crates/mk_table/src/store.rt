@@ -7,22 +7,24 @@ ghost use Rattle.mk_net.specs.Asked.{ratio_pairs};
 ghost use Rattle.mk_net.specs.Trades.{trade_ratio};
 ghost use Rattle.mk_states.specs.Ratios.{units_of};
 ghost use Rattle.mk_sums.specs.There.{share_there, support_there};
-ghost use Rattle.mk_table.specs.Scopes.{HasEvent, HasOneEach, HasSized, LiesIn, cells_in, has_variable};
-ghost use Rattle.mk_table.specs.Cells.{values_at, cell_in, cells_where};
-ghost use Rattle.mk_table.specs.Tables.{is_untouched_by, max_shift};
+ghost use Rattle.mk_scope.specs.Scopes.{HasEvent, HasOneEach, HasSized, LiesIn, cells_in, has_variable};
+ghost use Rattle.mk_scope.specs.Cells.{values_at, cell_in, cells_where};
+ghost use Rattle.mk_table.specs.Tables.{is_untouched_by};
+ghost use Rattle.mk_passes.specs.Parts.{max_shift, AreBlankOrFull, HaveRoom, IsChanged, IsFull, IsRestricted, IsTimes, IsTimesCell};
 ghost use Rattle.mk_table.specs.Lists.{table_in};
-ghost use Rattle.mk_table.specs.inner.Blank.{one_digits, one_exponent, filled};
-ghost use Rattle.mk_table.specs.inner.Parts.{AreBlankOrFull, HaveRoom, IsAmong, IsChanged, IsFull, IsRestricted, IsTimes, IsTimesCell};
+ghost use Rattle.mk_passes.specs.Blank.{one_digits, one_exponent, filled};
+ghost use Rattle.mk_scope.specs.Runs.{IsAmong};
 ghost use Rattle.mk_table.specs.inner.Touched.{IsBeside, IsEither, IsEitherWithin, IsWithin};
 ghost use Rattle.mk_table.specs.inner.Store.{IsBlankFrom, IsNowhere, IsStoreOf, IsWrittenFrom, StandsFrom, is_written, store_tables, no_head, head_in, scope_in, with_cells, with_ratios};
 
-use crate::blank::{append_until, copy_over, one, put_cells};
-use crate::part::Places;
-use crate::picked::RATIO_SHIFT;
 use crate::scopes::Scopes;
-use crate::times::{keep_value, times_cells, times_shares, times_supports, times_units};
 use crate::touched::{beside, is_untouched_by, put_either_within, put_within, take_either};
 use mk_net::{Event, Network, Pair, Ratio};
+use mk_passes::{
+    RATIO_SHIFT, append_until, copy_over, keep_value, one, put_cells, times_cells, times_shares,
+    times_supports, times_units,
+};
+use mk_scope::Places;
 
 /// Where the cells of a table stand.
 #[derive(Clone, Copy)]

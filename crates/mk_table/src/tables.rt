@@ -8,25 +8,24 @@ ghost use Rattle.mk_net.specs.Trades.{trade_ratio};
 ghost use Rattle.mk_states.specs.States.{plus_over};
 ghost use Rattle.mk_sums.specs.There.{share_there, support_there, ratio_there};
 ghost use Rattle.mk_cell.specs.Cell.{Stands, IsOwnOf};
-ghost use Rattle.mk_table.specs.Scopes.{HasEvent, HasOneEach, HasSized, cells_in, has_variable};
-ghost use Rattle.mk_table.specs.Cells.{values_at, cell_in, cells_onto, cells_beside, cells_where};
+ghost use Rattle.mk_scope.specs.Scopes.{HasEvent, HasOneEach, HasSized, cells_in, has_variable};
+ghost use Rattle.mk_scope.specs.Cells.{values_at, cell_in, cells_onto, cells_beside, cells_where};
 ghost use Rattle.mk_table.specs.Tables.{HasNumbers, HasRoom, is_untouched};
 ghost use Rattle.mk_table.specs.Ratios.{KeepsPairs};
 ghost use Rattle.mk_table.specs.Margins.{IsMarginBut};
 ghost use Rattle.mk_table.specs.Lists.{IsOnes, no_scope, table_in};
-ghost use Rattle.mk_table.specs.inner.Parts.{IsFull, StandListed};
+ghost use Rattle.mk_passes.specs.Parts.{IsFull, StandListed};
 
-use crate::again::plus_at_chosen;
-use crate::blank::{copy_over, fill, one, plus_of_each, plus_of_listed};
-use crate::joined::margin_times;
-use crate::part::Places;
-use crate::products::plus_of_products;
 use crate::scopes::Scopes;
 use crate::store::{Place, Spare, Store};
-use crate::strides::CellList;
 use crate::touched::pairs_within;
 use mk_cell::Cell;
 use mk_net::{Event, Network, NoMemory, Pair, Ratio};
+use mk_passes::{
+    Columns, Lists, copy_over, fill, margin_times, one, plus_at_chosen, plus_of_each,
+    plus_of_listed, plus_of_products,
+};
+use mk_scope::{CellList, Places};
 use mk_semiring::Semiring;
 use std::alloc::Global;
 use std::marker::{Model, PhantomData};
@@ -290,12 +289,13 @@ impl<R: Semiring> Tables<R> {
         let (bases, offsets, run) = places.lists();
         let (digits, exponents) = self.store.cells(scopes, k);
         plus_of_each::<R>(
-            digits,
-            exponents,
+            Columns { digits, exponents },
             scopes.scope(k).cells(),
-            bases,
-            offsets,
-            run,
+            Lists {
+                bases,
+                offsets,
+                run,
+            },
             &mut self.spare.digits,
             &mut self.spare.exponents,
         );
@@ -346,11 +346,12 @@ impl<R: Semiring> Tables<R> {
         );
         let (digits, exponents) = self.store.cells(scopes, k);
         plus_at_chosen::<R>(
-            digits,
-            exponents,
-            bases,
-            offsets,
-            run,
+            Columns { digits, exponents },
+            Lists {
+                bases,
+                offsets,
+                run,
+            },
             chosen.as_slice(),
             &mut self.spare.digits,
             &mut self.spare.exponents,
@@ -395,11 +396,12 @@ impl<R: Semiring> Tables<R> {
         let (digits, exponents) = self.store.cells(scopes, k);
         let (other_digits, other_exponents) = self.store.cells(scopes, other);
         margin_times::<R>(
-            digits,
-            exponents,
+            Columns { digits, exponents },
             places,
-            other_digits,
-            other_exponents,
+            Columns {
+                digits: other_digits,
+                exponents: other_exponents,
+            },
             other_places,
             &mut self.spare.digits,
             &mut self.spare.exponents,
@@ -458,11 +460,12 @@ impl<R: Semiring> Tables<R> {
         let (other_digits, other_exponents) = self.store.cells(scopes, message);
         scopes.scope(k).cells_where(event, chosen);
         plus_of_products::<R>(
-            digits,
-            exponents,
+            Columns { digits, exponents },
             places.onto(),
-            other_digits,
-            other_exponents,
+            Columns {
+                digits: other_digits,
+                exponents: other_exponents,
+            },
             0,
             chosen.as_slice(),
         )

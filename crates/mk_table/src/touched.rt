@@ -5,13 +5,13 @@ ghost use Rattle.std.specs.Prelude.{◌≡◌, ◌<◌, ◌⊎◌, [], ◌∷◌
 ghost use Rattle.mk_net.specs.declared.words.Pair.{Pair};
 ghost use Rattle.mk_net.specs.Bounds.{max_pairs};
 ghost use Rattle.mk_net.specs.Events.{speaks_of};
-ghost use Rattle.mk_table.specs.Scopes.{HasEvent, has_variable};
+ghost use Rattle.mk_scope.specs.Scopes.{HasEvent, has_variable};
 ghost use Rattle.mk_table.specs.Ratios.{has_pair};
 ghost use Rattle.mk_table.specs.Tables.{contradicts, contradicts_pair, is_untouched_by};
 ghost use Rattle.mk_table.specs.inner.Touched.{IsPart, IsEither, IsBeside, IsWithin, IsEitherWithin};
 
-use crate::scope::Scope;
 use mk_net::{Event, Pair};
+use mk_scope::Scope;
 
 /// Whether no ratio touched a cell where an event holds.
 pub(crate) fn is_untouched_by(touched: &Option<Event>, event: &Event) -> bool

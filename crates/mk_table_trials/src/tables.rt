@@ -5,16 +5,19 @@ ghost use Rattle.std.specs.Prelude.{◌≡◌, ◌+◌, ◌<◌, ◌≤◌, fals
 ghost use Rattle.mk_net.specs.Events.{speaks_of};
 ghost use Rattle.mk_net.specs.Network.{sizes};
 ghost use Rattle.mk_net.specs.Trades.{trade_ratio};
-ghost use Rattle.mk_table.specs.Scopes.{LiesIn};
+ghost use Rattle.mk_scope.specs.Scopes.{LiesIn};
 ghost use Rattle.mk_table.specs.Tables.{HasRoom};
-ghost use Rattle.mk_table_trials.specs.Weather.{of_all, of_rain, of_wind};
+ghost use Rattle.mk_table.specs.Lists.{table_in};
+ghost use Rattle.mk_table_trials.specs.Weather.{of_all, of_rain, of_wind, weather_scopes};
+ghost use Rattle.mk_table_trials.specs.Weather.{AreWeather, HaveRoom};
 
 use crate::fixtures::{only, read};
 use arrayvec::ArrayVec;
 use mk_cell::Cell;
 use mk_net::{Event, Network, NoMemory, Pair, Ratio, VarSet};
+use mk_scope::{CellList, Places, Scope};
 use mk_semiring::{MinProd, Semiring, SumProd};
-use mk_table::{CellList, Places, Scope, Table};
+use mk_table::{Scopes, Tables};
 use std::alloc::Global;
 use std::process::Abort;
 use std::rc::Rc;
@@ -66,28 +69,29 @@ parents = []
 rows = [[500000, 500000]]
 ";
 
-/// The scope of some variables, and where its cells lie in that of all.
-#[derive(Drop)]
-struct Part {
-    scope: Rc<Scope>,
-    places: Places,
-}
+/// The number of the table of all three variables.
+const OF_ALL: usize = 0;
 
-/// The three variables, the scope of all, and the parts of the rain and of the wind.
+/// The number of the rain's table.
+const OF_RAIN: usize = 1;
+
+/// The number of the wind's table.
+const OF_WIND: usize = 2;
+
+/// The network, the scopes of its tables, and where the cells of rain and of wind lie in those
+/// of all.
 #[derive(Drop)]
 struct Weather {
     net: Network,
-    all: Rc<Scope>,
-    rain: Part,
-    wind: Part,
+    scopes: Rc<Scopes>,
+    rain: Places,
+    wind: Places,
     ghost three: { length net ≡ 3 },
     ghost rains: { slice_index (sizes net) 0 ≡ 2 },
     ghost winds: { slice_index (sizes net) 1 ≡ 3 },
-    ghost all_is: { all.value ≡ of_all },
-    ghost rain_is: { rain.scope.value ≡ of_rain },
-    ghost wind_is: { wind.scope.value ≡ of_wind },
-    ghost places_of_rain: { rain.places ≡ record { whole = of_all; part = of_rain } },
-    ghost places_of_wind: { wind.places ≡ record { whole = of_all; part = of_wind } },
+    ghost scopes_are: { scopes.value ≡ weather_scopes },
+    ghost rain_is: { rain ≡ record { whole = of_all; part = of_rain } },
+    ghost wind_is: { wind ≡ record { whole = of_all; part = of_wind } },
 }
 
 /// The scope of all three.
@@ -102,53 +106,31 @@ fn all(alloc: Global, net: &Network) -> Result<Rc<Scope>, NoMemory>
     Ok(Rc::new(alloc, scope)?)
 }
 
-fn make_part(alloc: Global, whole: &Rc<Scope>, scope: Scope) -> Result<Part, NoMemory>
-    requires { LiesIn scope whole.now.value }
-    ensures scope { IfOk result (λ part. part.scope.value ≡ scope) }
-    ensures places { IfOk result (λ part. part.places ≡ record { whole = whole.now.value; part = scope }) }
+/// Where the cells of a part lie.
+fn places(alloc: Global, whole: &Rc<Scope>, part: &Rc<Scope>) -> Result<Places, NoMemory>
+    requires { LiesIn part.now.value whole.now.value }
+    ensures { IfOk result (λ it. it ≡ record { whole = whole.now.value; part = part.now.value }) }
 {
-    let scope = Rc::new(alloc, scope)?;
     let (mut bases, mut offsets) = (CellList::new(), CellList::new());
-    let places = Places::of(alloc, whole, &scope, &mut bases, &mut offsets)?;
-    Ok(Part { scope, places })
+    Places::of(alloc, whole, part, &mut bases, &mut offsets)
 }
 
-fn scope_of_rain(alloc: Global, net: &Network) -> Result<Scope, NoMemory>
+fn rain(alloc: Global, net: &Network) -> Result<Rc<Scope>, NoMemory>
     requires three { length net.now ≡ 3 }
     requires rains { slice_index (sizes net.now) 0 ≡ 2 }
-    ensures { IfOk result (λ scope. scope ≡ of_rain) }
+    ensures { IfOk result (λ scope. scope.value ≡ of_rain) }
 {
-    Scope::of(alloc, net, &VarSet::empty().with(0))
+    let scope = Scope::of(alloc, net, &VarSet::empty().with(0))?;
+    Ok(Rc::new(alloc, scope)?)
 }
 
-fn scope_of_wind(alloc: Global, net: &Network) -> Result<Scope, NoMemory>
+fn wind(alloc: Global, net: &Network) -> Result<Rc<Scope>, NoMemory>
     requires three { length net.now ≡ 3 }
     requires winds { slice_index (sizes net.now) 1 ≡ 3 }
-    ensures { IfOk result (λ scope. scope ≡ of_wind) }
+    ensures { IfOk result (λ scope. scope.value ≡ of_wind) }
 {
-    Scope::of(alloc, net, &VarSet::empty().with(1))
-}
-
-fn rain(alloc: Global, net: &Network, all: &Rc<Scope>) -> Result<Part, NoMemory>
-    requires three { length net.now ≡ 3 }
-    requires rains { slice_index (sizes net.now) 0 ≡ 2 }
-    requires all { all.now.value ≡ of_all }
-    ensures scope { IfOk result (λ part. part.scope.value ≡ of_rain) }
-    ensures places { IfOk result (λ part. part.places ≡ record { whole = of_all; part = of_rain }) }
-{
-    let scope = scope_of_rain(alloc, net)?;
-    make_part(alloc, all, scope)
-}
-
-fn wind(alloc: Global, net: &Network, all: &Rc<Scope>) -> Result<Part, NoMemory>
-    requires three { length net.now ≡ 3 }
-    requires winds { slice_index (sizes net.now) 1 ≡ 3 }
-    requires all { all.now.value ≡ of_all }
-    ensures scope { IfOk result (λ part. part.scope.value ≡ of_wind) }
-    ensures places { IfOk result (λ part. part.places ≡ record { whole = of_all; part = of_wind }) }
-{
-    let scope = scope_of_wind(alloc, net)?;
-    make_part(alloc, all, scope)
+    let scope = Scope::of(alloc, net, &VarSet::empty().with(1))?;
+    Ok(Rc::new(alloc, scope)?)
 }
 
 /// Stops unless the network has three variables of two, three and two values.
@@ -164,19 +146,21 @@ fn expect_sizes(rt: &impl Abort, net: &Network)
     assert!(rt; net.values(2) == 2);
 }
 
-fn with_parts(alloc: Global, net: Network, all: Rc<Scope>) -> Result<Weather, NoMemory>
+fn with_scopes(alloc: Global, net: Network, all: Rc<Scope>) -> Result<Weather, NoMemory>
     requires three { length net ≡ 3 }
     requires rains { slice_index (sizes net) 0 ≡ 2 }
     requires winds { slice_index (sizes net) 1 ≡ 3 }
     requires all { all.value ≡ of_all }
 {
-    let rain = rain(alloc, &net, &all)?;
-    let wind = wind(alloc, &net, &all)?;
+    let (rain, wind) = (rain(alloc, &net)?, wind(alloc, &net)?);
+    let rain_places = places(alloc, &all, &rain)?;
+    let wind_places = places(alloc, &all, &wind)?;
+    let scopes = Scopes::of(vec![in alloc; all, rain, wind]?);
     Ok(Weather {
         net,
-        all,
-        rain,
-        wind,
+        scopes: Rc::new(alloc, scopes)?,
+        rain: rain_places,
+        wind: wind_places,
     })
 }
 
@@ -184,35 +168,29 @@ fn make_weather(rt: &impl Abort, alloc: Global) -> Result<Weather, Fail> {
     let net = read(alloc, WEATHER)?.net;
     expect_sizes(rt, &net);
     let all = all(alloc, &net)?;
-    Ok(with_parts(alloc, net, all)?)
+    Ok(with_scopes(alloc, net, all)?)
 }
 
-/// The rows of the wind times a message with the rows of the rain, copied over ones.
-fn product<R: Semiring>(alloc: Global, weather: &Weather) -> Result<Table<R>, NoMemory>
-    ensures scope { IfOk result (λ t. t.scope ≡ of_all) }
-    ensures room { IfOk result (λ t. HasRoom t 24) }
+/// The rows of the wind times a message with the rows of the rain.
+fn product<R: Semiring>(alloc: Global, weather: &Weather) -> Result<Tables<R>, NoMemory>
+    ensures { IfOk result HaveRoom }
 {
     let net = &weather.net;
     let _ = net.variables();
-    let mut message = Table::<R>::ones(alloc, &weather.rain.scope)?;
-    message.times_rows(net, 0);
-    let mut table = Table::<R>::ones(alloc, &weather.all)?;
-    table.times_rows(net, 1);
-    table.times_message(&weather.rain.places, &message);
-    let mut copy = Table::<R>::ones(alloc, &weather.all)?;
-    table.copy_into(&mut copy);
-    Ok(copy)
+    let mut tables = Tables::<R>::ones(alloc, &weather.scopes)?;
+    tables.times_rows(OF_RAIN, net, 0);
+    tables.times_rows(OF_ALL, net, 1);
+    tables.times_message(OF_ALL, &weather.rain, OF_RAIN);
+    Ok(tables)
 }
 
 /// Ones times a message of ones.
-fn ones_times_ones<R: Semiring>(alloc: Global, weather: &Weather) -> Result<Table<R>, NoMemory>
-    ensures scope { IfOk result (λ t. t.scope ≡ of_all) }
-    ensures room { IfOk result (λ t. HasRoom t 24) }
+fn ones_times_ones<R: Semiring>(alloc: Global, weather: &Weather) -> Result<Tables<R>, NoMemory>
+    ensures { IfOk result HaveRoom }
 {
-    let message = Table::<R>::ones(alloc, &weather.rain.scope)?;
-    let mut table = Table::<R>::ones(alloc, &weather.all)?;
-    table.times_message(&weather.rain.places, &message);
-    Ok(table)
+    let mut tables = Tables::<R>::ones(alloc, &weather.scopes)?;
+    tables.times_message(OF_ALL, &weather.rain, OF_RAIN);
+    Ok(tables)
 }
 
 /// The cell of a number under a shift; what is exact has one form.
@@ -223,112 +201,151 @@ fn check(rt: &impl Abort, cell: Cell, n: u64, shift: u32) {
     assert!(rt; cell.exponent == whole.exponent);
 }
 
-/// Stops unless this is the total of the middle wind of a table times a message, also by a margin whose product is never made.
-fn check_joined<R: Semiring>(
-    rt: &impl Abort,
-    alloc: Global,
-    weather: &Weather,
-    table: &Table<R>,
-    message: &Table<R>,
-    number: u64,
-) -> Result<(), Fail>
-    requires scope { table.now.scope ≡ of_all }
-    requires room { HasRoom table.now 24 }
-    requires message_scope { message.now.scope ≡ of_rain }
-    requires message_room { HasRoom message.now 1 }
-{
-    let (rain, middle) = (&weather.rain.places, only(rt, MIDDLE));
-    let total = table.total_times(rain, message, &middle, &mut CellList::new());
-    check(rt, total, number, 0);
-    let mut winds = Table::<R>::ones(alloc, &weather.wind.scope)?;
-    table.margin_times_into(&weather.wind.places, rain, message, &mut winds);
-    check(rt, winds.get(1), number, 0);
-    Ok(())
-}
-
-/// The same for a message with the rows of the rain, and for one that was cleared.
-fn check_times<R: Semiring>(
-    rt: &impl Abort,
-    alloc: Global,
-    weather: &Weather,
-    table: &Table<R>,
-    times: (u64, u64),
-) -> Result<(), Fail>
-    requires scope { table.now.scope ≡ of_all }
-    requires room { HasRoom table.now 24 }
-{
-    let _ = weather.net.variables();
-    let mut message = Table::<R>::ones(alloc, &weather.rain.scope)?;
-    message.times_rows(&weather.net, 0);
-    check_joined::<R>(rt, alloc, weather, table, &message, times.0)?;
-    message.clear();
-    check(rt, message.get(1), 1, 0);
-    check_joined::<R>(rt, alloc, weather, table, &message, times.1)
-}
-
-/// What is known of a table: the margin of each wind, the total of the middle one times a message with the rows of the rain and times
-/// ones, and with no other wind a cell where it is low, a dry one and a wet one.
+/// What is known of a table of all: the margin of each wind, and the total of the middle one times
+/// a message with the rows of the rain and times ones. Then, with no other wind, a cell where it is
+/// low, a dry one and a wet one.
 struct Known {
     winds: [u64; 3],
     times: (u64, u64),
     cells: [u64; 3],
 }
 
+fn check_winds<R: Semiring>(rt: &impl Abort, tables: &Tables<R>, winds: &[u64; 3])
+    requires { AreWeather tables.now }
+{
+    check(rt, tables.get(OF_WIND, 0), winds[0], 0);
+    check(rt, tables.get(OF_WIND, 1), winds[1], 0);
+    check(rt, tables.get(OF_WIND, 2), winds[2], 0);
+}
+
 fn check_margin<R: Semiring>(
     rt: &impl Abort,
-    alloc: Global,
     weather: &Weather,
-    table: &Table<R>,
+    tables: &mut Tables<R>,
     winds: &[u64; 3],
-) -> Result<(), Fail>
-    requires scope { table.now.scope ≡ of_all }
-    requires room { HasRoom table.now 24 }
+)
+    requires { HaveRoom tables.old }
+    ensures { HaveRoom tables.new }
 {
-    let mut margin = Table::<R>::ones(alloc, &weather.wind.scope)?;
-    table.margin_into(&weather.wind.places, &mut margin);
-    check(rt, margin.get(0), winds[0], 0);
-    check(rt, margin.get(1), winds[1], 0);
-    check(rt, margin.get(2), winds[2], 0);
-    Ok(())
+    tables.margin_into(OF_ALL, &weather.wind, OF_WIND);
+    check_winds::<R>(rt, tables, winds);
+}
+
+/// Stops unless this is the total of the middle wind times the message, also by a margin whose
+/// product is never made.
+fn check_joined<R: Semiring>(
+    rt: &impl Abort,
+    weather: &Weather,
+    tables: &mut Tables<R>,
+    number: u64,
+)
+    requires { HaveRoom tables.old }
+    ensures { HaveRoom tables.new }
+{
+    let (rain, middle) = (&weather.rain, only(rt, MIDDLE));
+    let total = tables.total_times(OF_ALL, rain, OF_RAIN, &middle, &mut CellList::new());
+    check(rt, total, number, 0);
+    tables.margin_times_into(OF_ALL, &weather.wind, rain, OF_RAIN, OF_WIND);
+    check(rt, tables.get(OF_WIND, 1), number, 0);
+}
+
+/// The same for a message with the rows of the rain, and for one that was cleared.
+fn check_times<R: Semiring>(
+    rt: &impl Abort,
+    weather: &Weather,
+    tables: &mut Tables<R>,
+    times: (u64, u64),
+)
+    requires { HaveRoom tables.old }
+    ensures { HaveRoom tables.new }
+{
+    weigh_rain::<R>(weather, tables);
+    check_joined::<R>(rt, weather, tables, times.0);
+    tables.clear(OF_RAIN);
+    check(rt, tables.get(OF_RAIN, 1), 1, 0);
+    check_joined::<R>(rt, weather, tables, times.1);
+}
+
+/// Makes the message one with the rows of the rain, whatever it was.
+fn weigh_rain<R: Semiring>(weather: &Weather, tables: &mut Tables<R>)
+    requires { HaveRoom tables.old }
+    ensures { HaveRoom tables.new }
+{
+    let _ = weather.net.variables();
+    tables.clear(OF_RAIN);
+    tables.times_rows(OF_RAIN, &weather.net, 0);
 }
 
 /// The total of the middle wind, before and after all other winds are made absent.
-fn check_totals<R: Semiring>(rt: &impl Abort, table: &mut Table<R>, number: u64)
-    requires scope { table.old.scope ≡ of_all }
-    requires room { HasRoom table.old 24 }
-    ensures { table.new.scope ≡ table.old.scope }
+fn check_totals<R: Semiring>(rt: &impl Abort, tables: &mut Tables<R>, number: u64)
+    requires { HaveRoom tables.old }
+    ensures { HaveRoom tables.new }
 {
     let mut chosen = CellList::new();
-    let before = table.total(&only(rt, MIDDLE), &mut chosen);
-    table.restrict(MIDDLE);
-    let after = table.total(&Event::empty(), &mut chosen);
+    let before = tables.total(OF_ALL, &only(rt, MIDDLE), &mut chosen);
+    tables.restrict(OF_ALL, MIDDLE);
+    let after = tables.total(OF_ALL, &Event::empty(), &mut chosen);
     check(rt, before, number, 0);
     check(rt, after, number, 0);
 }
 
-fn check_cells<R: Semiring>(rt: &impl Abort, table: &Table<R>, cells: &[u64; 3])
-    requires { table.now.scope ≡ of_all }
+fn check_cells<R: Semiring>(rt: &impl Abort, tables: &Tables<R>, cells: &[u64; 3])
+    requires { AreWeather tables.now }
 {
-    check(rt, table.get(0), cells[0], 0);
-    check(rt, table.get(2), cells[1], 0);
-    check(rt, table.get(9), cells[2], 0);
+    check(rt, tables.get(OF_ALL, 0), cells[0], 0);
+    check(rt, tables.get(OF_ALL, 2), cells[1], 0);
+    check(rt, tables.get(OF_ALL, 9), cells[2], 0);
 }
 
 fn check_table<R: Semiring>(
     rt: &impl Abort,
-    alloc: Global,
     weather: &Weather,
-    table: &mut Table<R>,
+    tables: &mut Tables<R>,
     known: &Known,
-) -> Result<(), Fail>
-    requires scope { table.old.scope ≡ of_all }
-    requires room { HasRoom table.old 24 }
+)
+    requires { HaveRoom tables.old }
 {
-    check_margin::<R>(rt, alloc, weather, table, &known.winds)?;
-    check_times::<R>(rt, alloc, weather, table, known.times)?;
-    check_totals::<R>(rt, table, known.winds[1]);
-    check_cells::<R>(rt, table, &known.cells);
-    Ok(())
+    check_margin::<R>(rt, weather, tables, &known.winds);
+    check_times::<R>(rt, weather, tables, known.times);
+    check_totals::<R>(rt, tables, known.winds[1]);
+    check_cells::<R>(rt, tables, &known.cells);
+}
+
+/// Puts the message, which has the rows of the rain, into the table of all.
+fn check_put<R: Semiring>(rt: &impl Abort, weather: &Weather, tables: &mut Tables<R>)
+    requires { HaveRoom tables.old }
+    ensures { HaveRoom tables.new }
+{
+    tables.put_message(OF_ALL, &weather.rain, OF_RAIN);
+    check(rt, tables.get(OF_ALL, 5), 400_000, 0);
+    check(rt, tables.get(OF_ALL, 6), 600_000, 0);
+}
+
+/// Makes each dry cell absent, and then the margin of the middle wind alone anew.
+fn check_again<R: Semiring>(
+    rt: &impl Abort,
+    weather: &Weather,
+    tables: &mut Tables<R>,
+    winds: &[u64; 3],
+)
+    requires { HaveRoom tables.old }
+    ensures { HaveRoom tables.new }
+{
+    let (middle, mut chosen) = (only(rt, MIDDLE), CellList::new());
+    tables.restrict(OF_ALL, RAIN);
+    tables.margin_again_into(OF_ALL, &weather.wind, &middle, &mut chosen, OF_WIND);
+    check_winds::<R>(rt, tables, winds);
+}
+
+/// A table that is cleared leaves the cells of the others as they were.
+fn check_others<R: Semiring>(rt: &impl Abort, tables: &mut Tables<R>, winds: &[u64; 3])
+    requires { HaveRoom tables.old }
+{
+    check(rt, tables.get(OF_ALL, 6), 600_000, 0);
+    tables.clear(OF_ALL);
+    check(rt, tables.get(OF_ALL, 6), 1, 0);
+    check(rt, tables.get(OF_RAIN, 1), 600_000, 0);
+    check_winds::<R>(rt, tables, winds);
 }
 
 /// A trade of the heat: 3 units where it is cold, and 5 where it is warm.
@@ -362,15 +379,15 @@ fn each_rain(rt: &impl Abort) -> Ratio
 }
 
 /// Ones times two ratios.
-fn traded<R: Semiring>(rt: &impl Abort, alloc: Global, weather: &Weather) -> Result<Table<R>, Fail>
-    ensures { IfOk result (λ t. t.scope ≡ of_all) }
+fn traded<R: Semiring>(rt: &impl Abort, alloc: Global, weather: &Weather) -> Result<Tables<R>, Fail>
+    ensures { IfOk result AreWeather }
 {
-    let mut table = Table::<R>::ones(alloc, &weather.all)?;
+    let mut tables = Tables::<R>::ones(alloc, &weather.scopes)?;
     let mut chosen = CellList::new();
-    table.times_ratio(&each_rain(rt), &mut chosen);
-    table.times_ratio(&each_heat(only(rt, RAIN)), &mut chosen);
-    assert_eq!(rt; table.shift(), 80);
-    Ok(table)
+    tables.times_ratio(OF_ALL, &each_rain(rt), &mut chosen);
+    tables.times_ratio(OF_ALL, &each_heat(only(rt, RAIN)), &mut chosen);
+    assert_eq!(rt; tables.shift(OF_ALL), 80);
+    Ok(tables)
 }
 
 fn check_product<R: Semiring>(
@@ -379,8 +396,9 @@ fn check_product<R: Semiring>(
     weather: &Weather,
     known: &Known,
 ) -> Result<(), Fail> {
-    let mut table = product::<R>(alloc, weather)?;
-    check_table::<R>(rt, alloc, weather, &mut table, known)
+    let mut tables = product::<R>(alloc, weather)?;
+    check_table::<R>(rt, weather, &mut tables, known);
+    Ok(())
 }
 
 fn check_ones<R: Semiring>(
@@ -389,8 +407,23 @@ fn check_ones<R: Semiring>(
     weather: &Weather,
     known: &Known,
 ) -> Result<(), Fail> {
-    let mut table = ones_times_ones::<R>(alloc, weather)?;
-    check_table::<R>(rt, alloc, weather, &mut table, known)
+    let mut tables = ones_times_ones::<R>(alloc, weather)?;
+    check_table::<R>(rt, weather, &mut tables, known);
+    Ok(())
+}
+
+fn check_put_and_others<R: Semiring>(
+    rt: &impl Abort,
+    alloc: Global,
+    weather: &Weather,
+    winds: &[u64; 3],
+) -> Result<(), Fail> {
+    let mut tables = product::<R>(alloc, weather)?;
+    check_put::<R>(rt, weather, &mut tables);
+    check_margin::<R>(rt, weather, &mut tables, &[winds[0]; 3]);
+    check_again::<R>(rt, weather, &mut tables, winds);
+    check_others::<R>(rt, &mut tables, winds);
+    Ok(())
 }
 
 fn check_traded<R: Semiring>(
@@ -398,11 +431,19 @@ fn check_traded<R: Semiring>(
     alloc: Global,
     weather: &Weather,
 ) -> Result<(), Fail> {
-    let table = traded::<R>(rt, alloc, weather)?;
+    let tables = traded::<R>(rt, alloc, weather)?;
     for (cell, number, shift) in [(0, 1, 0), (3, 7, 40), (8, 3, 40), (9, 45, 80)] {
-        check(rt, table.get(cell), number, shift);
+        check(rt, tables.get(OF_ALL, cell), number, shift);
     }
     Ok(())
+}
+
+/// What is known of the product and of ones, and the margin of each wind where the middle one's
+/// is made anew.
+struct Expected {
+    product: Known,
+    ones: Known,
+    put: [u64; 3],
 }
 
 /// Each call, by the numbers of the product and of ones.
@@ -410,78 +451,84 @@ fn check_calls<R: Semiring>(
     rt: &impl Abort,
     alloc: Global,
     weather: &Weather,
-    product: &Known,
-    ones: &Known,
+    expected: &Expected,
 ) -> Result<(), Fail> {
-    check_product::<R>(rt, alloc, weather, product)?;
-    check_ones::<R>(rt, alloc, weather, ones)?;
+    check_product::<R>(rt, alloc, weather, &expected.product)?;
+    check_ones::<R>(rt, alloc, weather, &expected.ones)?;
+    check_put_and_others::<R>(rt, alloc, weather, &expected.put)?;
     check_traded::<R>(rt, alloc, weather)
 }
 
-// For each wind two heats of 400,000 and 600,000 times its rows; then two heats of dry times 400,000 and of wet times 600,000.
-const PRODUCT_SUMS: Known = Known {
-    winds: [440_000_000_000, 520_000_000_000, 1_040_000_000_000],
-    times: (280_000_000_000_000_000, 520_000_000_000),
-    cells: [0, 80_000_000_000, 180_000_000_000],
+// For each wind two heats of 400,000 and 600,000 times its rows; then two heats of dry times
+// 400,000 and of wet times 600,000. Where the message is put, each wind has two heats of 400,000
+// and of 600,000, and the middle one, made anew without the dry cells, two of 600,000.
+const SUMS: Expected = Expected {
+    product: Known {
+        winds: [440_000_000_000, 520_000_000_000, 1_040_000_000_000],
+        times: (280_000_000_000_000_000, 520_000_000_000),
+        cells: [0, 80_000_000_000, 180_000_000_000],
+    },
+    ones: Known {
+        winds: [4, 4, 4],
+        times: (2_000_000, 4),
+        cells: [0, 1, 1],
+    },
+    put: [2_000_000, 1_200_000, 2_000_000],
 };
 
-const ONES_SUMS: Known = Known {
-    winds: [4, 4, 4],
-    times: (2_000_000, 4),
-    cells: [0, 1, 1],
-};
-
-const PRODUCT_MINIMA: Known = Known {
-    winds: [40_000_000_000, 80_000_000_000, 240_000_000_000],
-    times: (32_000_000_000_000_000, 80_000_000_000),
-    cells: [0, 80_000_000_000, 180_000_000_000],
-};
-
-const ONES_MINIMA: Known = Known {
-    winds: [1, 1, 1],
-    times: (400_000, 1),
-    cells: [0, 1, 1],
+const MINIMA: Expected = Expected {
+    product: Known {
+        winds: [40_000_000_000, 80_000_000_000, 240_000_000_000],
+        times: (32_000_000_000_000_000, 80_000_000_000),
+        cells: [0, 80_000_000_000, 180_000_000_000],
+    },
+    ones: Known {
+        winds: [1, 1, 1],
+        times: (400_000, 1),
+        cells: [0, 1, 1],
+    },
+    put: [400_000, 600_000, 400_000],
 };
 
 /// Ones times a ratio where it rains.
-fn heated(rt: &impl Abort, alloc: Global, weather: &Weather) -> Result<Table<SumProd>, Fail>
-    ensures scope { IfOk result (λ t. t.scope ≡ of_all) }
-    ensures room { IfOk result (λ t. HasRoom t 2) }
+fn heated(rt: &impl Abort, alloc: Global, weather: &Weather) -> Result<Tables<SumProd>, Fail>
+    ensures weather { IfOk result AreWeather }
+    ensures room { IfOk result (λ tables. HasRoom (table_in tables 0) 2) }
 {
-    let mut table = Table::<SumProd>::ones(alloc, &weather.all)?;
-    assert!(rt; table.is_untouched(&Event::empty()));
-    table.times_ratio(&each_heat(only(rt, RAIN)), &mut CellList::new());
-    assert!(rt; table.is_untouched(&only(rt, DRY)));
-    assert!(rt; !table.is_untouched(&only(rt, RAIN)));
-    assert!(rt; !table.is_untouched(&only(rt, WARM)));
-    Ok(table)
+    let mut tables = Tables::<SumProd>::ones(alloc, &weather.scopes)?;
+    assert!(rt; tables.is_untouched(OF_ALL, &Event::empty()));
+    tables.times_ratio(OF_ALL, &each_heat(only(rt, RAIN)), &mut CellList::new());
+    assert!(rt; tables.is_untouched(OF_ALL, &only(rt, DRY)));
+    assert!(rt; !tables.is_untouched(OF_ALL, &only(rt, RAIN)));
+    assert!(rt; !tables.is_untouched(OF_ALL, &only(rt, WARM)));
+    Ok(tables)
 }
 
 fn check_untouched(rt: &impl Abort, alloc: Global, weather: &Weather) -> Result<(), Fail> {
-    let mut table = heated(rt, alloc, weather)?;
+    let mut tables = heated(rt, alloc, weather)?;
     // The pair that both conditions have is kept alone.
     let both = only(rt, RAIN).with(HIGH).expect(rt, "two pairs");
-    table.times_ratio(&each_heat(both), &mut CellList::new());
-    assert!(rt; table.is_untouched(&only(rt, DRY)));
-    assert!(rt; !table.is_untouched(&only(rt, MIDDLE)));
+    tables.times_ratio(OF_ALL, &each_heat(both), &mut CellList::new());
+    assert!(rt; tables.is_untouched(OF_ALL, &only(rt, DRY)));
+    assert!(rt; !tables.is_untouched(OF_ALL, &only(rt, MIDDLE)));
     // Where it is known to be dry, no cell that is left was touched.
-    table.restrict(DRY);
-    assert!(rt; table.is_untouched(&Event::empty()));
+    tables.restrict(OF_ALL, DRY);
+    assert!(rt; tables.is_untouched(OF_ALL, &Event::empty()));
     Ok(())
 }
 
 fn check_two_conditions(rt: &impl Abort, alloc: Global, weather: &Weather) -> Result<(), Fail> {
-    let mut table = heated(rt, alloc, weather)?;
-    table.times_ratio(&each_rain(rt), &mut CellList::new());
-    assert!(rt; !table.is_untouched(&only(rt, DRY)));
-    table.restrict(RAIN);
-    assert!(rt; !table.is_untouched(&only(rt, DRY)));
+    let mut tables = heated(rt, alloc, weather)?;
+    tables.times_ratio(OF_ALL, &each_rain(rt), &mut CellList::new());
+    assert!(rt; !tables.is_untouched(OF_ALL, &only(rt, DRY)));
+    tables.restrict(OF_ALL, RAIN);
+    assert!(rt; !tables.is_untouched(OF_ALL, &only(rt, DRY)));
     Ok(())
 }
 
 fn check_all(rt: &impl Abort, alloc: Global, weather: &Weather) -> Result<(), Fail> {
-    check_calls::<SumProd>(rt, alloc, weather, &PRODUCT_SUMS, &ONES_SUMS)?;
-    check_calls::<MinProd>(rt, alloc, weather, &PRODUCT_MINIMA, &ONES_MINIMA)?;
+    check_calls::<SumProd>(rt, alloc, weather, &SUMS)?;
+    check_calls::<MinProd>(rt, alloc, weather, &MINIMA)?;
     check_untouched(rt, alloc, weather)?;
     check_two_conditions(rt, alloc, weather)
 }

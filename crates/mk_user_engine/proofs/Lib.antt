@@ -1,6 +1,5 @@
 pub mod Least
 pub mod Coded
-pub mod Counted
 pub mod Drop
 pub mod Pairs
 pub mod Believing

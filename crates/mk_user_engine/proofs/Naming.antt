@@ -8,7 +8,7 @@ use Rattle.mk_net.specs.Asked.{TradeRatio}
 use Rattle.mk_net.proofs.Networks.{two_values}
 use Rattle.mk_states.specs.OfNetwork.{IsRatioOf}
 use Rattle.mk_states.proofs.Listed.{as_many}
-use Rattle.mk_table.specs.Scopes.{ScopeOf, HasSized, size_in}
+use Rattle.mk_scope.specs.Scopes.{ScopeOf, HasSized, size_in}
 use Rattle.mk_user_engine.specs.declared.names.Names.{Names}
 use Rattle.mk_user_engine.specs.Names.{is_named, HasNames, IsSize}
 

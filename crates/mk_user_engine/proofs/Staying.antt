@@ -8,7 +8,7 @@ use Rattle.mk_net.specs.Asked.{TradeRatio, ratio_pairs}
 use Rattle.mk_net.specs.Network.{Variable, sizes}
 use Rattle.mk_states.specs.OfNetwork.{IsPairOf, IsRatioOf}
 use Rattle.mk_states.proofs.Sums.{list_all-append}
-use Rattle.mk_table.specs.Scopes.{ScopeOf, HasSized}
+use Rattle.mk_scope.specs.Scopes.{ScopeOf, HasSized}
 use Rattle.mk_tree.specs.Given.{GivenTree, home, holds}
 use Rattle.mk_tree.proofs.Held.{home_is_held}
 use Rattle.mk_engine.specs.Meaning.{Meaning, ArePairsOf}

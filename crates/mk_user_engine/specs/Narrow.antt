@@ -14,7 +14,7 @@ use Rattle.mk_sums.specs.There.{holds_there, ratio_there}
 use Rattle.mk_cell.specs.Cell.{StandsAt, IsOwnAt}
 use Rattle.mk_cell.specs.Least.{least}
 use Rattle.mk_cell.specs.Passes.{plus_below}
-use Rattle.mk_table.specs.Scopes.{ScopeOf, HasSized}
+use Rattle.mk_scope.specs.Scopes.{ScopeOf, HasSized}
 use Rattle.mk_tree.specs.Given.{GivenTree, home}
 use Rattle.mk_tree.specs.Checked.{IsTreeOf}
 use Rattle.mk_engine.specs.Meaning.{Meaning, Factor, RatioOf}

@@ -7,6 +7,5 @@ mod laws;
 mod names;
 mod narrow;
 mod product;
-mod sizes;
 
 pub use engine::UserEngine;

@@ -11,7 +11,7 @@ ghost use Rattle.mk_net.specs.Trades.{trade_ratio};
 ghost use Rattle.mk_states.specs.OfNetwork.{IsPairOf};
 ghost use Rattle.mk_cell.specs.Least.{least};
 ghost use Rattle.mk_semiring.specs.Held.{HeldEncloses, HasHeldGrade, IsHeldExact};
-ghost use Rattle.mk_table.specs.Scopes.{HasSized};
+ghost use Rattle.mk_scope.specs.Scopes.{HasSized};
 ghost use Rattle.mk_table.specs.Tables.{contradicts, contradicts_pair};
 ghost use Rattle.mk_tree.specs.Given.{GivenTree, home};
 ghost use Rattle.mk_tree.specs.Checked.{IsTreeOf};
@@ -26,12 +26,11 @@ ghost use Rattle.mk_user_engine.specs.Narrow.{max_trades};
 
 use crate::names::{MAX_CELLS, Named, Names, is_named};
 use crate::product::{UNIT_PLACES, keep_pairs, write_products};
-use crate::sizes::size_in;
 use arrayvec::ArrayVec;
 use mk_cell::{Cell, least};
 use mk_net::{Event, NoMemory, Pair, Ratio};
+use mk_scope::Scope;
 use mk_semiring::{Held, MinProd, Semiring};
-use mk_table::Scope;
 use std::alloc::Global;
 
 /// The most trades of the narrow form.
@@ -248,7 +247,7 @@ fn name_pair(names: &mut Names, scope: &Scope, variable: u32) -> bool
         → is_named names.new.list.items x ≡ true }
     ensures named { result ≡ true → is_named names.new.list.items variable ≡ true }
 {
-    is_named(&names.list, variable) || names.name(variable, size_in(scope, variable))
+    is_named(&names.list, variable) || names.name(variable, scope.size(variable))
 }
 
 /// The same ratio once more.

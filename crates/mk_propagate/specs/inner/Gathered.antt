@@ -5,8 +5,8 @@ use Rattle.std.specs.List.{list_any}
 use Rattle.mk_net.specs.Asked.{TradeRatio}
 use Rattle.mk_states.specs.States.{plus_over, product_by}
 use Rattle.mk_sums.specs.Trees.{linked_to}
-use Rattle.mk_table.specs.Scopes.{cells_in}
-use Rattle.mk_table.specs.Cells.{cell_in, cells_onto, cells_beside}
+use Rattle.mk_scope.specs.Scopes.{cells_in}
+use Rattle.mk_scope.specs.Cells.{cell_in, cells_onto, cells_beside}
 use Rattle.mk_table.specs.Tables.{TableOf, HasNumbers}
 use Rattle.mk_table.specs.Ratios.{KeepsPairs}
 use Rattle.mk_tree.specs.Given.{GivenTree, link_of}
@@ -34,11 +34,6 @@ message_in upward downward a b = if nat_lt b a then slice_index_or upward (a - 2
 abbrev pub IsRightIn : (ℕ → ℕ → ℕ) → ShapeOf → Placing → ℕ → ℕ → TableOf → Type 0
 IsRightIn plus shape p i k message =
     HasCells message (separator_between shape i k) (exact_message plus shape.tree p i k) (3 * exact_message_grade shape.tree p i k) (exact_message_grade shape.tree p i k) (message_ratios shape.tree p i k) (IsCommon p)
-
--- the messages of both ways: one each for each clique after the first
-pub record AreMessages (shape : ShapeOf) (upward downward : List TableOf) : Type 0 where
-  pub one_less_up : length upward + 1 ≡ length shape.tree.cliques
-  pub one_less_down : length downward + 1 ≡ length shape.tree.cliques
 
 -- the messages that clique k takes are right
 pub record CanTake (plus : ℕ → ℕ → ℕ) (shape : ShapeOf) (upward downward : List TableOf) (k : ℕ) (receiver : Option ℕ) (p : Placing) : Type 0 where

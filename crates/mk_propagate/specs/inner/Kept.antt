@@ -2,7 +2,7 @@
 -- with a mark of whose messages it has.
 use Rattle.std.specs.Prelude.{◌≡◌, ℕ, ◌+◌, ◌-◌, ◌<◌, true, List, length, slice_index_or}
 use Rattle.mk_sums.specs.Trees.{sum_of}
-use Rattle.mk_table.specs.Scopes.{cells_in}
+use Rattle.mk_scope.specs.Scopes.{cells_in}
 use Rattle.mk_table.specs.Tables.{TableOf}
 use Rattle.mk_tree.specs.Given.{GivenTree, AreLinked}
 use Rattle.mk_propagate.specs.Shapes.{IsClique, clique_scope, core_scope, separator_scope}

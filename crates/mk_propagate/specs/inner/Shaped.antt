@@ -1,11 +1,11 @@
 -- How a shape is kept: beside the scopes, where the separators' cells lie in the cores at their ends and the cores' cells in their cliques and in themselves, the
 -- list of each clique's neighbours, for each clique the next cliques on the ways there, and for each variable where to look for its home.
-use Rattle.std.specs.Prelude.{◌≡◌, ℕ, ◌+◌, ◌-◌, ◌<◌, ◌≤◌, Bool, true, false, if◌then◌else◌, List, [], map, length, slice_index, slice_index_or}
+use Rattle.std.specs.Prelude.{◌≡◌, ℕ, ◌+◌, ◌-◌, ◌<◌, ◌≤◌, Bool, true, false, if◌then◌else◌, List, [], ◌++◌, map, length, slice_index, slice_index_or}
 use Rattle.std.specs.List.{range_with_len}
 use Rattle.mk_net.specs.declared.sets.VarSet.{VarSet}
 use Rattle.mk_net.specs.Sets.{is_member}
 use Rattle.mk_net.specs.Network.{Variable}
-use Rattle.mk_table.specs.Scopes.{ScopeOf, PlacesOf, LiesIn}
+use Rattle.mk_scope.specs.Scopes.{ScopeOf, PlacesOf, LiesIn}
 use Rattle.mk_tree.specs.Given.{GivenTree, AreLinked, clique_at, holds, link_of}
 use Rattle.mk_propagate.specs.Shapes.{ShapeOf, IsClique, AreNextTo, clique_scope, core_scope, separator_scope, neighbours, scope_within, in_core, shares}
 
@@ -67,8 +67,22 @@ pub record CanPlaceCores (shape : ShapeOf) : Type 0 where
   pub one_core_each : length shape.cores ≡ length shape.tree.cliques
   pub lie : (k : ℕ) → IsClique shape.tree k → LiesIn (core_scope shape k) (clique_scope shape k)
 
-pub record IsShaped (shape : ShapeOf) (in_cliques in_links in_whole in_itself : List PlacesOf) (neighbour_lists ways : List (List ℕ)) (starts : List ℕ) : Type 0 where
+-- the scopes of a flow's tables, in their order
+abbrev pub all_scopes : List ScopeOf → List ScopeOf → List ScopeOf → List ScopeOf
+all_scopes cliques cores separators = cliques ++ cores ++ cores ++ separators ++ separators
+
+abbrev pub scopes_of : ShapeOf → List ScopeOf
+scopes_of shape = all_scopes shape.cliques shape.cores shape.separators
+
+-- a scope for each clique and its core, and one fewer for the separators
+pub record HasEach (shape : ShapeOf) : Type 0 where
+  pub one_each : length shape.cliques ≡ length shape.tree.cliques
+  pub one_core_each : length shape.cores ≡ length shape.tree.cliques
+  pub one_less : length shape.separators + 1 ≡ length shape.tree.cliques
+
+pub record IsShaped (shape : ShapeOf) (scopes : List ScopeOf) (in_cliques in_links in_whole in_itself : List PlacesOf) (neighbour_lists ways : List (List ℕ)) (starts : List ℕ) : Type 0 where
   pub linked : AreLinked shape.tree
+  pub scopes_are : scopes ≡ scopes_of shape
   pub in_cliques_are : in_cliques ≡ places_of shape false (length shape.tree.cliques - 1)
   pub in_links_are : in_links ≡ places_of shape true (length shape.tree.cliques - 1)
   pub in_whole_are : in_whole ≡ core_places_of shape (length shape.tree.cliques)

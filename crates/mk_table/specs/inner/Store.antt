@@ -8,10 +8,10 @@ use Rattle.mk_table.specs.declared.store.Place.TheVariants.{Nowhere, Blank, Writ
 use Rattle.mk_table.specs.declared.store.Head.{Head}
 use Rattle.mk_table.specs.declared.store.Store.{Store}
 use Rattle.mk_table.specs.declared.store.Spare.{Spare}
-use Rattle.mk_table.specs.Scopes.{ScopeOf, cells_in}
+use Rattle.mk_scope.specs.Scopes.{ScopeOf, cells_in}
 use Rattle.mk_table.specs.Tables.{TableOf}
 use Rattle.mk_table.specs.Lists.{no_scope}
-use Rattle.mk_table.specs.inner.Blank.{one_digits, one_exponent}
+use Rattle.mk_passes.specs.Blank.{one_digits, one_exponent}
 use Rattle.mk_table.specs.inner.Touched.{HasTouched}
 
 -- a table of which nothing was written yet

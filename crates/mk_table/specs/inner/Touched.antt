@@ -1,7 +1,7 @@
 -- What becomes of the event that ratios may have touched.
 use Rattle.std.specs.Prelude.{◌≡◌, ℕ, ◌≤◌, ⊤, Bool, true, List, length, take, All, Option, Some, None}
 use Rattle.mk_net.specs.declared.words.Pair.{Pair}
-use Rattle.mk_table.specs.Scopes.{ScopeOf, HasEvent}
+use Rattle.mk_scope.specs.Scopes.{ScopeOf, HasEvent}
 use Rattle.mk_table.specs.Tables.{touches}
 use Rattle.mk_table.specs.Ratios.{has_pair, KeepsPairs}
 

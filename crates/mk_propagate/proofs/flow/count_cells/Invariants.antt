@@ -1,6 +1,6 @@
 use Rattle.std.proofs.Common.{◌≡◌, ◌*◌, ◌≤◌, true}
 use Rattle.mk_sums.specs.Trees.{sum_of}
-use Rattle.mk_table.specs.Scopes.{cells_in}
+use Rattle.mk_scope.specs.Scopes.{cells_in}
 use Rattle.mk_propagate.specs.Shapes.{clique_scope}
 use Rattle.mk_propagate.proofs.flow.count_cells.Given as goal
 

@@ -1,5 +1,5 @@
 use Rattle.std.proofs.Common.{◌+◌, arith, ap, ◌∙◌}
-use Rattle.mk_table.specs.Scopes.{scope_of}
+use Rattle.mk_scope.specs.Scopes.{scope_of}
 use Rattle.mk_tree.specs.Given.{holds}
 use Rattle.mk_propagate.specs.Shapes.{scope_within}
 use Rattle.mk_propagate.proofs.Scopes.{clique_fits}

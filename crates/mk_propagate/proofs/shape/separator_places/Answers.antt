@@ -1,6 +1,6 @@
 use Rattle.std.proofs.Common.{◌≡◌, ◌+◌, ◌-◌, [], map, arith, refl, sym, ap, subst, ◌∙◌}
 use Rattle.std.proofs.lemmas.List.{length-map}
-use Rattle.mk_table.specs.Scopes.{ScopeOf, LiesIn}
+use Rattle.mk_scope.specs.Scopes.{ScopeOf, LiesIn}
 use Rattle.mk_propagate.specs.Shapes.{IsClique, core_scope, separator_scope}
 use Rattle.mk_propagate.specs.inner.Shaped.{shape_of}
 use Rattle.mk_propagate.proofs.Shaped.{place_more, scope_read}

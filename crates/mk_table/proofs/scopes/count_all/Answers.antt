@@ -1,7 +1,7 @@
-use Rattle.std.proofs.Common.{◌≡◌, ℕ, ◌+◌, ◌*◌, ◌<◌, ◌≤◌, map, arith, ap, sym, subst, ◌∙◌}
+use Rattle.std.proofs.Common.{◌≡◌, ◌≤◌, map, arith, ap, ◌∙◌}
 use Rattle.std.proofs.lemmas.List.{length-map}
 use Rattle.mk_net.specs.Bounds.{max_clique_cells}
-use Rattle.mk_table.specs.Scopes.{cells_in}
+use Rattle.mk_scope.specs.Scopes.{cells_in}
 use Rattle.mk_table.proofs.Stored.{missing_step, missing_done, scope_read, each_step}
 use Rattle.mk_table.proofs.scopes.count_all.Goals as goal
 use Rattle.mk_table.proofs.scopes.count_all.Goals.{then-most-count, else-most-count}

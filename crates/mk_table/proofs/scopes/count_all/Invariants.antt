@@ -1,6 +1,6 @@
 use Rattle.std.proofs.Common.{◌≡◌, ℕ, ◌+◌, ◌*◌, ◌<◌, ◌≤◌, [], drop, map}
 use Rattle.mk_net.specs.Bounds.{max_clique_cells}
-use Rattle.mk_table.specs.Scopes.{cells_in}
+use Rattle.mk_scope.specs.Scopes.{cells_in}
 use Rattle.mk_table.specs.inner.Store.{all_missing, scope_in}
 use Rattle.mk_table.proofs.scopes.count_all.Given as goal
 

@@ -1,4 +1,4 @@
-use Rattle.std.proofs.Common.{◌≡◌, ◌<◌, ◌≤◌, ◌++◌, ◌∷◌, [], length, replicate, arith, ap, sym, ◌∙◌}
+use Rattle.std.proofs.Common.{◌≡◌, ◌++◌, ◌∷◌, [], length, replicate, arith, ap, sym, ◌∙◌}
 use Rattle.std.proofs.lemmas.List.{take_more_set, replicate_more, take_all}
 use Rattle.mk_table.proofs.store.put_each.Goals as goal
 

@@ -1,7 +1,7 @@
 use Rattle.std.proofs.Common.{◌≡◌, ◌+◌, ◌<◌, ◌&&◌, Bool, true, false, List, length, get_or, sym, ap, subst, ◌∙◌, arith}
 use Rattle.std.proofs.lemmas.Bool.{and_left, and_right}
 use Rattle.mk_net.specs.declared.words.Pair.{Pair}
-use Rattle.mk_table.specs.Scopes.{HasEvent, has_variable}
+use Rattle.mk_scope.specs.Scopes.{HasEvent, has_variable}
 use Rattle.mk_table.specs.Ratios.{has_pair}
 use Rattle.mk_table.specs.inner.Touched.{IsPart, AreTaken}
 use Rattle.mk_table.proofs.Untouched.{all_push, is_one}

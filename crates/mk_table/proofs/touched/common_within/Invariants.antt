@@ -1,5 +1,5 @@
 use Rattle.std.proofs.Common.{◌&&◌}
-use Rattle.mk_table.specs.Scopes.{HasEvent, has_variable}
+use Rattle.mk_scope.specs.Scopes.{HasEvent, has_variable}
 use Rattle.mk_table.specs.Ratios.{has_pair}
 use Rattle.mk_table.specs.inner.Touched.{IsPart, AreTaken}
 use Rattle.mk_table.proofs.touched.common_within.Given as goal

@@ -1,4 +1,4 @@
-use Rattle.mk_table.specs.Scopes.{HasEvent, has_variable}
+use Rattle.mk_scope.specs.Scopes.{HasEvent, has_variable}
 use Rattle.mk_table.specs.inner.Touched.{IsPart, AreTaken}
 use Rattle.mk_table.proofs.touched.pairs_within.Given as goal
 

@@ -1,7 +1,7 @@
 use Rattle.std.proofs.Common.{rules, ◌≡◌, List, All, length, sym, subst}
 use Rattle.mk_net.specs.declared.words.Pair.{Pair}
 use Rattle.mk_net.specs.Network.{sizes}
-use Rattle.mk_table.specs.Scopes.{HasSized}
+use Rattle.mk_scope.specs.Scopes.{HasSized}
 use Rattle.mk_user_engine.specs.Names.{IsSize}
 use Rattle.mk_user_engine.proofs.narrow.name_ratio.Goals as goal
 

@@ -1,4 +1,4 @@
-use Rattle.std.proofs.Common.{◌≡◌, ℕ, ap, sym, ◌∙◌}
+use Rattle.std.proofs.Common.{ap, sym, ◌∙◌}
 use Rattle.mk_table.specs.declared.store.Head.{Head}
 use Rattle.mk_table.proofs.Stored.{head_is, blank_store, blank_tables, blank_already}
 use Rattle.mk_table.proofs.store.Store.blank.Goals as goal

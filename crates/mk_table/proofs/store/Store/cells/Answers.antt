@@ -1,10 +1,9 @@
-use Rattle.std.proofs.Common.{◌≡◌, ◌+◌, ◌-◌, ◌≤◌, List, length, take, drop, replicate, arith, ap, sym, subst, ◌∙◌, refl, inl, inr}
-use Rattle.mk_table.specs.Scopes.{cells_in}
-use Rattle.mk_table.specs.inner.Blank.{one_digits, one_exponent, filled}
-use Rattle.mk_table.specs.inner.Parts.{AreBlankOrFull}
-use Rattle.mk_table.specs.inner.Store.{scope_in, head_in, IsWrittenFrom}
-use Rattle.mk_table.proofs.Filled.{filled_empty, filled_full}
-use Rattle.mk_table.proofs.Stored.{cells_there, cells_written, cells_blank, range_full, some_written, range_whole, range_filled_digits, range_filled_exponents}
+use Rattle.std.proofs.Common.{arith, ap, sym, ◌∙◌, refl, inl}
+use Rattle.mk_scope.specs.Scopes.{cells_in}
+use Rattle.mk_passes.specs.Blank.{one_digits, one_exponent}
+use Rattle.mk_table.specs.inner.Store.{scope_in}
+use Rattle.mk_passes.proofs.Filled.{filled_empty}
+use Rattle.mk_table.proofs.Stored.{cells_there, cells_blank, range_full, some_written, range_whole, range_filled_digits, range_filled_exponents}
 use Rattle.mk_table.proofs.store.Store.cells.Goals as goal
 
 pub overflow_add-end : goal.overflow_add-end

@@ -1,14 +1,13 @@
-use Rattle.std.proofs.Common.{◌≡◌, ℕ, ◌+◌, ◌-◌, ◌≤◌, ◌++◌, List, length, replicate, set, take, drop, arith, ap, sym, subst, ◌∙◌, refl}
-use Rattle.std.specs.Prelude.{vec_len, vec_capacity}
+use Rattle.std.proofs.Common.{◌≡◌, ℕ, List, length, replicate, set, arith, ap, sym, subst, ◌∙◌, refl}
 use Rattle.std.proofs.lemmas.List.{length-replicate}
-use Rattle.mk_table.specs.Scopes.{cells_in}
+use Rattle.mk_scope.specs.Scopes.{cells_in}
 use Rattle.mk_table.specs.Lists.{table_in}
-use Rattle.mk_table.specs.declared.store.Place.TheVariants.{Nowhere, Blank, Written}
+use Rattle.mk_table.specs.declared.store.Place.TheVariants.{Blank, Written}
 use Rattle.mk_table.specs.declared.store.Head.{Head}
-use Rattle.mk_table.specs.inner.Blank.{one_digits, one_exponent}
-use Rattle.mk_table.specs.inner.Store.{IsStore, StandsFrom, missing, scope_in, head_in, tables_of, with_cells}
-use Rattle.mk_table.proofs.Stored.{head_is, has_missing, store_more, blank_already, no_cells}
-use Rattle.mk_table.proofs.Ranges.{over_store, over_tables, end_store, end_tables, part_long, filled_end}
+use Rattle.mk_passes.specs.Blank.{one_digits, one_exponent}
+use Rattle.mk_table.specs.inner.Store.{StandsFrom, scope_in, tables_of, with_cells}
+use Rattle.mk_table.proofs.Stored.{head_is, blank_already}
+use Rattle.mk_table.proofs.Ranges.{over_store, over_tables, part_long}
 use Rattle.mk_table.proofs.store.Store.fill_at.Goals as goal
 
 pub overflow_add-first : goal.overflow_add-first

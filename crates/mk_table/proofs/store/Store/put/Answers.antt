@@ -1,9 +1,9 @@
-use Rattle.std.proofs.Common.{◌≡◌, ℕ, ◌+◌, ◌≤◌, List, length, replicate, set, arith, ap, sym, ◌∙◌}
-use Rattle.mk_table.specs.Scopes.{cells_in}
+use Rattle.std.proofs.Common.{ℕ, ◌≤◌, List, length, replicate, set, arith, ap, sym, ◌∙◌}
+use Rattle.mk_scope.specs.Scopes.{cells_in}
 use Rattle.mk_table.specs.Lists.{table_in}
-use Rattle.mk_table.specs.inner.Blank.{one_digits, one_exponent, filled}
+use Rattle.mk_passes.specs.Blank.{one_digits, one_exponent, filled}
 use Rattle.mk_table.specs.inner.Store.{scope_in, tables_of, with_cells}
-use Rattle.mk_table.proofs.Filled.{filled_none, filled_full, all_blank, all_full}
+use Rattle.mk_passes.proofs.Filled.{filled_none, filled_full, all_blank, all_full}
 use Rattle.mk_table.proofs.store.Store.put.Goals as goal
 
 pub returns-then-len-count-clause-tables : goal.returns-then-len-count-clause-tables

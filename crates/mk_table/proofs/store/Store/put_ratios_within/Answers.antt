@@ -1,8 +1,8 @@
-use Rattle.std.proofs.Common.{◌≡◌, ℕ, ◌+◌, refl, ap, sym, subst, ◌∙◌}
+use Rattle.std.proofs.Common.{ap, subst}
 use Rattle.mk_table.specs.declared.store.Head.{Head}
 use Rattle.mk_table.specs.inner.Store.{head_in}
-use Rattle.mk_table.proofs.Stored.{head_is, read_there, ratios_store, ratios_tables}
-use Rattle.mk_table.specs.Scopes.{ScopeOf}
+use Rattle.mk_table.proofs.Stored.{head_is, ratios_store, ratios_tables}
+use Rattle.mk_scope.specs.Scopes.{ScopeOf}
 use Rattle.mk_table.specs.inner.Touched.{HasTouched}
 use Rattle.mk_table.proofs.store.Store.put_ratios_within.Goals as goal
 

@@ -1,18 +1,16 @@
-use Rattle.std.proofs.Common.{◌≡◌, ℕ, ◌+◌, ◌-◌, ◌*◌, ◌<◌, ◌≤◌, List, length, take, drop, replicate, slice_index, inl, inr, refl, arith, ap, sym, subst, ◌∙◌}
+use Rattle.std.proofs.Common.{ℕ, ◌<◌, ◌≤◌, List, length, replicate, slice_index, refl, arith, ap, sym, subst, ◌∙◌}
 use Rattle.std.proofs.lemmas.List.{get_or_default, get_or-replicate, length-replicate}
-use Rattle.mk_table.specs.Scopes.{ScopeOf, cells_in}
-use Rattle.mk_table.specs.Cells.{cell_in}
+use Rattle.mk_scope.specs.Scopes.{cells_in}
+use Rattle.mk_scope.specs.Cells.{cell_in}
 use Rattle.mk_table.specs.Tables.{TableOf}
 use Rattle.mk_table.specs.Lists.{table_in}
-use Rattle.mk_table.specs.inner.Blank.{one_digits, one_exponent, filled}
-use Rattle.mk_table.specs.inner.Parts.{IsFull, IsChanged, IsTimesCell, AreBlankOrFull, HaveRoom}
-use Rattle.mk_table.specs.inner.Store.{scope_in, head_in, tables_of}
-use Rattle.mk_table.proofs.Filled.{at_most, all_blank, all_full, filled_length, filled_full, filled_empty, one_at, full_room, times_same}
-use Rattle.mk_table.proofs.Kept.{cell_within}
-use Rattle.mk_table.proofs.OnesSum.{times_one}
-use Rattle.mk_table.proofs.Spread.{spread_changed, blank_put, full_put}
-use Rattle.mk_table.proofs.Stored.{cells_there, cells_blank, range_digits, range_exponents, range_full, table_is_full, tables_length, not_written}
-use Rattle.mk_table.proofs.Ranges.{passed_store, passed_tables, after_digits, after_exponents, after_tables, changed_same, room_same}
+use Rattle.mk_passes.specs.Blank.{one_digits, one_exponent}
+use Rattle.mk_table.specs.inner.Store.{scope_in, tables_of}
+use Rattle.mk_passes.proofs.Filled.{all_blank, all_full, one_at}
+use Rattle.mk_scope.proofs.Kept.{cell_within}
+use Rattle.mk_passes.proofs.Spread.{full_put}
+use Rattle.mk_table.proofs.Stored.{cells_there, range_digits, range_exponents, range_full, tables_length}
+use Rattle.mk_table.proofs.Ranges.{passed_store, passed_tables, after_digits, after_exponents, after_tables}
 use Rattle.mk_table.proofs.store.Store.spread.Goals as goal
 
 pub returns-then-len-part_cells-clause-full : goal.returns-then-len-part_cells-clause-full

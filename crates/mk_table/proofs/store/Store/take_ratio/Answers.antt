@@ -1,4 +1,4 @@
-use Rattle.std.proofs.Common.{◌≡◌, ℕ, ◌+◌, refl, ap, sym, subst, ◌∙◌}
+use Rattle.std.proofs.Common.{◌+◌, ap}
 use Rattle.mk_table.specs.declared.store.Head.{Head}
 use Rattle.mk_table.specs.inner.Store.{head_in, scope_in}
 use Rattle.mk_table.proofs.Stored.{head_is, read_there, ratios_store, ratios_tables}

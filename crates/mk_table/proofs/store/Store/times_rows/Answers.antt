@@ -1,14 +1,11 @@
-use Rattle.std.proofs.Common.{◌≡◌, ℕ, ◌+◌, ◌-◌, ◌*◌, ◌<◌, ◌≤◌, ◌==◌, true, All, List, length, take, drop, arith, ap, sym, subst, ◌∙◌}
+use Rattle.std.proofs.Common.{◌+◌, ◌-◌, ◌<◌, All, List, take, drop, arith, ap, sym, subst, ◌∙◌}
 use Rattle.mk_net.specs.Named.{variable_at}
-use Rattle.mk_net.specs.Asked.{ratio_pairs}
-use Rattle.mk_net.specs.Trades.{trade_ratio}
-use Rattle.mk_states.specs.Ratios.{units_of}
-use Rattle.mk_sums.specs.There.{share_there, support_there}
-use Rattle.mk_table.specs.Scopes.{ScopeOf, HasEvent, HasOneEach, HasSized, cells_in, has_variable}
-use Rattle.mk_table.specs.Cells.{values_at, cells_where}
+use Rattle.mk_sums.specs.There.{share_there}
+use Rattle.mk_scope.specs.Scopes.{ScopeOf, HasSized, cells_in}
+use Rattle.mk_scope.specs.Cells.{values_at}
 use Rattle.mk_table.specs.Tables.{TableOf}
 use Rattle.mk_table.specs.Lists.{table_in}
-use Rattle.mk_table.specs.inner.Parts.{IsFull, IsChanged, IsAmong, IsTimes, IsRestricted}
+use Rattle.mk_passes.specs.Parts.{IsFull, IsChanged, IsTimes}
 use Rattle.mk_table.specs.inner.Store.{scope_in, tables_of}
 use Rattle.mk_table.proofs.Stored.{cells_there, range_digits, range_exponents, range_full, tables_length}
 use Rattle.mk_table.proofs.Ranges.{passed_store, passed_tables, after_digits, after_exponents, after_tables, changed_same, room_same}

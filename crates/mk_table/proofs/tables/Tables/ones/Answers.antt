@@ -1,8 +1,7 @@
-use Rattle.std.proofs.Common.{◌≡◌, ℕ, ◌<◌, ◌≤◌, List, length, arith, ap, sym, subst, ◌∙◌}
-use Rattle.std.specs.Prelude.{vec_capacity}
-use Rattle.mk_table.specs.Scopes.{ScopeOf, cells_in}
+use Rattle.std.proofs.Common.{◌≡◌, List, length, arith, ap, sym, subst, ◌∙◌}
+use Rattle.mk_scope.specs.Scopes.{ScopeOf}
 use Rattle.mk_table.specs.Lists.{IsOnes, table_in}
-use Rattle.mk_table.specs.inner.Store.{AreScopes, AreTables, scope_in, tables_of}
+use Rattle.mk_table.specs.inner.Store.{AreScopes, scope_in, tables_of}
 use Rattle.mk_table.proofs.Stored.{tables_length}
 use Rattle.mk_table.proofs.Made.{fresh_store, fresh_ones}
 use Rattle.mk_table.proofs.tables.Tables.ones.Goals as goal

@@ -1,26 +1,20 @@
-use Rattle.std.proofs.Common.{◌≡◌, ℕ, ◌+◌, ◌-◌, ◌*◌, ◌<◌, ◌≤◌, ◌==◌, true, All, List, length, arith, ap, sym, subst, ◌∙◌, refl, cond}
-use Rattle.std.specs.Prelude.{Option, Some, None}
+use Rattle.std.proofs.Common.{◌≡◌, ℕ, ◌+◌, ◌*◌, ◌<◌, ◌≤◌, List, length, arith, ap, sym, subst, ◌∙◌, refl}
+use Rattle.std.specs.Prelude.{Option}
 use Rattle.std.specs.Prelude.{vec_capacity}
-use Rattle.mk_table.specs.Cells.{cell_in}
-use Rattle.mk_net.specs.declared.words.Pair.{Pair}
-use Rattle.mk_net.specs.Named.{variable_at}
-use Rattle.mk_net.specs.Asked.{ratio_pairs}
-use Rattle.mk_net.specs.Trades.{trade_ratio}
-use Rattle.mk_sums.specs.There.{share_there, support_there}
-use Rattle.mk_table.specs.Scopes.{ScopeOf, PlacesOf, LiesIn, HasEvent, HasOneEach, HasSized, cells_in, has_variable}
-use Rattle.mk_table.specs.Cells.{values_at, cells_where}
+use Rattle.mk_scope.specs.Cells.{cell_in}
+use Rattle.mk_scope.specs.Scopes.{ScopeOf, PlacesOf, LiesIn, cells_in}
 use Rattle.mk_table.specs.Tables.{TableOf}
 use Rattle.mk_table.specs.Lists.{table_in}
 use Rattle.mk_table.specs.Ratios.{KeepsPairs}
-use Rattle.mk_table.specs.declared.store.Head.{Head}
-use Rattle.mk_table.specs.inner.Parts.{IsFull, AreNumbers, AreBlankOrFull}
-use Rattle.mk_table.specs.inner.Touched.{IsEither, IsBeside}
-use Rattle.mk_table.specs.inner.Blank.{one_digits, one_exponent, filled}
-use Rattle.mk_table.specs.inner.Store.{scope_in, head_in, tables_of, store_tables, with_cells, with_ratios}
-use Rattle.mk_table.proofs.Whole.{AreParts, parts_room, touched_cells, rows_numbers, ratio_numbers, kept_numbers, message_numbers, put_numbers}
-use Rattle.mk_table.proofs.Stored.{table_is_full, table_shift, table_touched, tables_length}
+use Rattle.mk_passes.specs.Parts.{AreBlankOrFull}
+use Rattle.mk_table.specs.inner.Numbers.{AreNumbers}
+use Rattle.mk_table.specs.inner.Touched.{IsEither}
+use Rattle.mk_passes.specs.Blank.{one_digits, one_exponent, filled}
+use Rattle.mk_table.specs.inner.Store.{scope_in, head_in, tables_of, store_tables}
+use Rattle.mk_table.proofs.Whole.{parts_room, touched_cells, message_numbers}
+use Rattle.mk_table.proofs.Stored.{table_is_full, table_shift, table_touched}
 use Rattle.mk_table.proofs.Ranges.{after_is}
-use Rattle.mk_table.proofs.Made.{seen_within, seen_scope, seen_shift, seen_touched, seen_full, seen_there, seen_parts, made_only, made_full, made_numbers, made_shift, made_touched, both_steps, at_shift, at_touched, other_table}
+use Rattle.mk_table.proofs.Made.{seen_within, seen_scope, seen_parts, made_only, made_full, made_numbers, made_shift, made_touched, both_steps, at_shift, at_touched, other_table}
 use Rattle.mk_table.proofs.tables.Tables.times_message.Goals as goal
 
 pub take-requires-clause-table : goal.take-requires-clause-table

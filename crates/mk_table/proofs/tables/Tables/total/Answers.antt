@@ -1,9 +1,10 @@
 use Rattle.std.proofs.Common.{◌+◌, ◌*◌, ◌<◌, All, length}
-use Rattle.mk_table.specs.Scopes.{cells_in}
+use Rattle.mk_scope.specs.Scopes.{cells_in}
 use Rattle.mk_table.specs.Lists.{table_in}
-use Rattle.mk_table.specs.Cells.{cells_where}
-use Rattle.mk_table.proofs.Blocked.{all_listed}
-use Rattle.mk_table.proofs.Whole.{where_within, total_own}
+use Rattle.mk_scope.specs.Cells.{cells_where}
+use Rattle.mk_passes.proofs.Blocked.{all_listed}
+use Rattle.mk_scope.proofs.Reached.{where_within}
+use Rattle.mk_table.proofs.Whole.{total_own}
 use Rattle.mk_table.proofs.tables.Tables.total.Goals as goal
 
 pub returns-clause-stands : goal.returns-clause-stands

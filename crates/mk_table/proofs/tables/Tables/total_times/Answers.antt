@@ -1,28 +1,16 @@
-use Rattle.std.proofs.Common.{◌≡◌, ℕ, ◌+◌, ◌-◌, ◌*◌, ◌<◌, ◌≤◌, ◌==◌, true, false, All, List, length, arith, ap, sym, subst, ◌∙◌, refl, slice_index, [], replicate, cond}
-use Rattle.std.specs.Prelude.{Option, Some, None}
-use Rattle.mk_table.specs.Cells.{cell_in}
-use Rattle.mk_table.specs.inner.Touched.{HasTouched}
-use Rattle.mk_table.proofs.Filled.{all_full, filled_full, filled_empty}
+use Rattle.std.proofs.Common.{◌≡◌, ℕ, ◌+◌, ◌*◌, ◌<◌, ◌≤◌, All, List, length, arith, ap, sym, subst, ◌∙◌, refl, slice_index, [], replicate}
+use Rattle.mk_scope.specs.Cells.{cell_in, cells_where}
+use Rattle.mk_passes.proofs.Filled.{all_full, filled_full, filled_empty}
 use Rattle.mk_table.proofs.Multiplied.{few_chosen, chosen_within, onto_within, table_pairs, table_own, from_code, from_blank, event_passes, event_free, event_free_too}
-use Rattle.mk_net.specs.declared.words.Pair.{Pair}
-use Rattle.mk_net.specs.Named.{variable_at}
-use Rattle.mk_net.specs.Asked.{ratio_pairs}
-use Rattle.mk_net.specs.Trades.{trade_ratio}
-use Rattle.mk_sums.specs.There.{share_there, support_there}
-use Rattle.mk_table.specs.Scopes.{ScopeOf, PlacesOf, LiesIn, HasEvent, HasOneEach, HasSized, cells_in, has_variable}
-use Rattle.mk_table.specs.Cells.{values_at, cells_where}
+use Rattle.mk_scope.specs.Scopes.{ScopeOf, PlacesOf, LiesIn, HasEvent, cells_in}
 use Rattle.mk_table.specs.Tables.{TableOf}
 use Rattle.mk_table.specs.Lists.{table_in}
-use Rattle.mk_table.specs.Ratios.{KeepsPairs}
-use Rattle.mk_table.specs.declared.store.Head.{Head}
-use Rattle.mk_table.specs.inner.Parts.{IsFull, AreNumbers, AreBlankOrFull}
-use Rattle.mk_table.specs.inner.Touched.{IsEither, IsBeside}
-use Rattle.mk_table.specs.inner.Blank.{one_digits, one_exponent, filled}
-use Rattle.mk_table.specs.inner.Store.{IsStoreOf, is_written, scope_in, head_in, tables_of, store_tables, with_cells, with_ratios}
-use Rattle.mk_table.proofs.Whole.{AreParts, parts_room, touched_cells, rows_numbers, ratio_numbers, kept_numbers, message_numbers, put_numbers}
-use Rattle.mk_table.proofs.Stored.{cells_blank, not_written, table_is_full, table_shift, table_touched, tables_length}
-use Rattle.mk_table.proofs.Ranges.{after_is}
-use Rattle.mk_table.proofs.Made.{seen_within, seen_scope, seen_shift, seen_touched, seen_full, seen_there, seen_parts, made_only, made_full, made_numbers, made_shift, made_touched, both_steps}
+use Rattle.mk_passes.specs.Parts.{AreBlankOrFull}
+use Rattle.mk_passes.specs.Blank.{one_digits, one_exponent, filled}
+use Rattle.mk_table.specs.inner.Store.{IsStoreOf, scope_in, head_in, tables_of, store_tables}
+use Rattle.mk_table.proofs.Whole.{AreParts, parts_room}
+use Rattle.mk_table.proofs.Stored.{cells_blank, not_written}
+use Rattle.mk_table.proofs.Made.{seen_within, seen_scope, seen_full, seen_there}
 use Rattle.mk_table.proofs.tables.Tables.total_times.Goals as goal
 
 pub returns-then-not-is_written-clause-stands : goal.returns-then-not-is_written-clause-stands

@@ -1,0 +1,11 @@
+pub mod Blocked
+pub mod Changes
+pub mod Filled
+pub mod OnesSum
+pub mod Paired
+pub mod Unrounded
+pub mod Spread
+pub mod Anew
+pub mod Placed
+pub mod Rows
+pub mod Summed

@@ -1,0 +1,9 @@
+use Rattle.std.proofs.Common.{◌<◌}
+use Rattle.mk_sums.specs.There.{support_there}
+use Rattle.mk_scope.specs.Cells.{values_at}
+use Rattle.mk_passes.specs.Parts.{IsTimes, IsChanged}
+use Rattle.mk_passes.proofs.times.times_supports.Given as goal
+
+abbrev pub invariant-loop-cell : goal.invariant-loop-cell
+invariant-loop-cell l =
+    IsChanged (λ c d e x y. IsTimes d e 0 (support_there l.net l.variable (values_at l.scope c)) 0 x y) (λ c. c < l.cell) l.fn.digits l.fn.exponents l.digits l.exponents

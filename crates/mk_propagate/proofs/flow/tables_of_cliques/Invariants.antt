@@ -1,6 +1,0 @@
-use Rattle.mk_propagate.specs.Shapes.{clique_scope}
-use Rattle.mk_propagate.specs.inner.Ones.{AreOnes}
-use Rattle.mk_propagate.proofs.flow.tables_of_cliques.Given as goal
-
-abbrev pub invariant-loop-passed : goal.invariant-loop-passed
-invariant-loop-passed g l = AreOnes (clique_scope l.shape) 1 l.passed l.tables.items

@@ -1,0 +1,14 @@
+pub mod Values
+pub mod Members
+pub mod Kept
+pub mod Writing
+pub mod Opened
+pub mod Numbered
+pub mod Doubled
+pub mod Pinned
+pub mod Listed
+pub mod Ready
+pub mod Onto
+pub mod Chosen
+pub mod Runs
+pub mod Reached

@@ -1,0 +1,5 @@
+pub mod Scopes
+pub mod Cells
+pub mod Runs
+pub mod Places
+pub mod inner

@@ -1,6 +1,0 @@
-use Rattle.std.proofs.Common.{◌*◌}
-use Rattle.mk_table.proofs.Blocked.{cut_block}
-use Rattle.mk_table.proofs.blocks.block_of.Goals as goal
-
-pub returns : goal.returns
-returns c = cut_block c.args.offsets.now (c.args.block * 64) c.min.result c.min.ensures

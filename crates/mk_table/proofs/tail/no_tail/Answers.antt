@@ -1,5 +1,0 @@
-use Rattle.mk_table.proofs.Ready.{none_tail}
-use Rattle.mk_table.proofs.tail.no_tail.Goals as goal
-
-pub returns-clause-tail : goal.returns-clause-tail
-returns-clause-tail c = λ scope values. none_tail scope values

@@ -1,6 +1,0 @@
-use Rattle.mk_table.specs.inner.Parts.{IsTimesCell, IsChanged, IsAmong, cells_at}
-use Rattle.mk_table.proofs.times.times_listed.Given as goal
-
-abbrev pub invariant-loop-place : goal.invariant-loop-place
-invariant-loop-place l =
-    IsChanged (λ c d e x y. IsTimesCell d e l.other.digits l.other.exponent x y) (IsAmong (cells_at l.base l.offsets) l.place) l.fn.digits l.fn.exponents l.digits l.exponents
