@@ -10,12 +10,14 @@ use mk_engine::Engine;
 use mk_file::MarketFile;
 use mk_market::Market;
 use mk_net::NoMemory;
-use mk_semiring::{MinProd, SumProd};
+use mk_semiring::SumProd;
 use mk_tree_engine::TreeEngine;
+use mk_user_engine::UserEngine;
 use std::alloc::Global;
 
-/// A market whose prices and least factors come by messages along its tree.
-pub type TreeMarket = Market<TreeEngine<SumProd>, TreeEngine<MinProd>>;
+/// A market whose prices come by messages along its tree, and a user's least factors by a list of
+/// trades until these name too many variables, by messages from then on.
+pub type TreeMarket = Market<TreeEngine<SumProd>, UserEngine>;
 
 /// The market of an accepted file, before any command. Its engines share one plan, since that of a
 /// long chain takes long to make.

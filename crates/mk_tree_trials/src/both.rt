@@ -19,6 +19,7 @@ use mk_net::{Event, Network, NoMemory, Pair};
 use mk_semiring::{Held, MinProd, Semiring, SumProd};
 use mk_tree::Tree;
 use mk_tree_engine::TreeEngine;
+use mk_user_engine::UserEngine;
 use mk_walk::{WalkTrade, least_gain, total};
 use std::alloc::Global;
 use std::process::Abort;
@@ -253,7 +254,8 @@ fn follow_both(
         asked: sample.asked,
     };
     follow::<MinProd, JointEngine<MinProd>>(rt, alloc, &minima)?;
-    follow::<MinProd, TreeEngine<MinProd>>(rt, alloc, &minima)
+    follow::<MinProd, TreeEngine<MinProd>>(rt, alloc, &minima)?;
+    follow::<MinProd, UserEngine>(rt, alloc, &minima)
 }
 
 fn follow_file(
@@ -285,6 +287,11 @@ pub(crate) const NOT_A: Pair = Pair {
 
 const NOT_B: Pair = Pair {
     variable: 1,
+    value: 1,
+};
+
+const NOT_C: Pair = Pair {
+    variable: 2,
     value: 1,
 };
 
@@ -408,6 +415,55 @@ const IN_STAR: Sample = Sample {
     ],
 };
 
+/// Five values each, so that trades on three questions name more than 64 assignments.
+const FIVES: &str = "points_per_bit = 1
+max_trades = 1
+cliques = [['a', 'b'], ['b', 'c']]
+links = [1]
+[[variable]]
+name = 'a'
+values = ['p', 'q', 'r', 's', 't']
+parents = []
+rows = [[200000, 200000, 200000, 200000, 200000]]
+[[variable]]
+name = 'b'
+values = ['p', 'q', 'r', 's', 't']
+parents = []
+rows = [[100000, 200000, 300000, 200000, 200000]]
+[[variable]]
+name = 'c'
+values = ['p', 'q', 'r', 's', 't']
+parents = []
+rows = [[500000, 200000, 100000, 100000, 100000]]
+";
+
+/// A user's engine keeps the first trade in a list, and goes over to its tree at the second.
+const IN_FIVES: Sample = Sample {
+    file: FIVES,
+    rows: 3,
+    supports: 0,
+    changes: &[
+        Change::Rows(0),
+        Change::Rows(1),
+        Change::Rows(2),
+        Change::Traded(About(A, Some(B)), 733007751850, 1256584717458),
+        Change::Known(NOT_C),
+        Change::Traded(About(C, None), 2, 7),
+        Change::Traded(About(B, None), 3, 5),
+        Change::Known(NOT_A),
+    ],
+    asked: &[
+        About(A, None),
+        About(B, None),
+        About(C, None),
+        About(NOT_C, None),
+        About(A, Some(B)),
+        About(B, Some(NOT_A)),
+        About(C, Some(B)),
+        About(NOT_C, Some(NOT_B)),
+    ],
+};
+
 /// A chain in which b is up where a is, and c has three values, of which one cannot come beside each value of b.
 const GATES: &str = "points_per_bit = 1
 max_trades = 1
@@ -464,6 +520,7 @@ fn engines_are_as_walked(rt: HostRuntime) -> Result<(), Fail> {
     follow_sample(&rt, rt.alloc(), &IN_WEATHER)?;
     follow_sample(&rt, rt.alloc(), &ALONG_CHAIN)?;
     follow_sample(&rt, rt.alloc(), &IN_STAR)?;
+    follow_sample(&rt, rt.alloc(), &IN_FIVES)?;
     follow_sample(&rt, rt.alloc(), &AT_GATES)
 }
 
