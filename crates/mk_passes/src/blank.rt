@@ -60,17 +60,6 @@ pub fn append_until<T: Copy>(values: &mut Vec<T>, value: T, count: usize)
     }
 }
 
-/// Copies an array over another, into the memory that this has.
-pub fn copy_over<T: Copy>(from: &[T], to: &mut Vec<T>)
-    requires { length from.now ≤ vec_capacity to.old }
-    ensures items { to.new.items ≡ from.now }
-    ensures room { vec_capacity to.old ≤ vec_capacity to.new }
-{
-    to.clear();
-    // It finds room, so it succeeds.
-    let _ = to.extend_from_slice(from);
-}
-
 /// Whether a cell is the cell of 1.
 fn is_one(cell: Cell) -> bool
     ensures { result ≡ (cell.digits == one_digits && cell.exponent == one_exponent) }

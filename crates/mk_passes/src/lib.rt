@@ -11,7 +11,7 @@ mod products;
 mod times;
 
 pub use again::plus_at_chosen;
-pub use blank::{append_until, copy_over, fill, one, plus_of_each, plus_of_listed, put_cells};
+pub use blank::{append_until, fill, one, plus_of_each, plus_of_listed, put_cells};
 pub use columns::{Columns, Lists};
 pub use joined::margin_times;
 pub use picked::RATIO_SHIFT;

@@ -9,3 +9,6 @@ pub mod Margins
 pub mod Stored
 pub mod Ranges
 pub mod Made
+pub mod Seen
+pub mod Lent
+pub mod Copied

@@ -10,7 +10,7 @@ use Rattle.mk_cell.specs.declared.cell.Cell.{Cell}
 use Rattle.mk_cell.specs.Cell.{Stands, StandsAt, IsOwnAt}
 use Rattle.mk_cell.specs.inner.Laws.{stands_with_more}
 use Rattle.mk_scope.specs.Scopes.{LiesIn, cells_in}
-use Rattle.mk_scope.specs.Cells.{values_at, cell_in}
+use Rattle.mk_scope.specs.Cells.{values_at, cell_in, cells_where}
 use Rattle.mk_table.specs.Tables.{TableOf, HasNumbers, is_touched, is_untouched}
 use Rattle.mk_passes.specs.Blank.{one_digits, one_exponent, filled}
 use Rattle.mk_passes.specs.Parts.{StandPairs, StandListed, IsPlusOfPairs}
@@ -115,3 +115,24 @@ module _ (t m : TableOf) (event : List Pair) (lies : LiesIn m.scope t.scope) whe
 
   pub event_free_too : HasTouched m.scope m.touched → is_untouched m event ≡ true → (c : ℕ) → event_passes t event c ≡ true → c < cells_in t.scope → is_touched m (cell_in m.scope t.scope c) ≡ false
   event_free_too there untouched c e l = touched_in m.scope t.scope m.touched lies there c l ∙ untouched_there m.touched event (values_at t.scope c) untouched e
+
+-- a cell is the plus of the products where an event holds, and has a number of its own where no ratio touched them
+pub record IsTotal (plus : ℕ → ℕ → ℕ) (t m : TableOf) (event : List Pair) (q x : ℕ) : Type 0 where
+  pub stands : (f g : ℕ → ℕ) (n p : ℕ) → HasNumbers t f n → HasNumbers m g p
+      → StandsAt (t.shift + m.shift) q x (plus_over plus 0 (λ c. f c * g (cell_in m.scope t.scope c)) (cells_where t.scope event)) (n + p + 2 * cells_in t.scope + 1)
+  pub own : is_untouched t event ≡ true → is_untouched m event ≡ true → (f g : ℕ → ℕ) (n p : ℕ) → HasNumbers t f n → HasNumbers m g p
+      → IsOwnAt (t.shift + m.shift) q x (plus_over plus 0 (λ c. f c * g (cell_in m.scope t.scope c)) (cells_where t.scope event)) (n + p + 2 * cells_in t.scope + 1)
+
+pub is_total : (plus : ℕ → ℕ → ℕ) → Lawful plus → (t m : TableOf) (event : List Pair) (lies : LiesIn m.scope t.scope) → length t.digits ≡ cells_in t.scope → length m.digits ≡ cells_in m.scope
+    → HasTouched m.scope m.touched → (q x : ℕ)
+    → ((j k : ℕ) (a b : ℕ → ℕ) (n p : ℕ) → StandPairs j k t.digits t.exponents m.digits m.exponents (goes t m (event_passes t event) lies) a b n p (chosen t m (event_passes t event) lies)
+    → StandsAt (j + k) q x (plus_over plus 0 (λ c. a c * b c) (chosen t m (event_passes t event) lies)) (n + p + 2 * cells_in t.scope + 1))
+    → IsTotal plus t m event q x
+is_total plus law t m event lies full other_full there q x made =
+    let passes = event_passes t event in
+    record {
+      stands = λ f g n p has other. made t.shift m.shift f (λ i. g (cell_in m.scope t.scope i)) n p (table_pairs t m passes lies full other_full f g n p has other);
+      own = λ untouched untouched_too f g n p has other.
+          table_own t m passes lies full other_full f g n p has other (event_free t m event lies untouched) (event_free_too t m event lies there untouched_too) plus law
+          q x (n + p + 2 * cells_in t.scope + 1) (λ i j a b pairs. made i j a b n p pairs);
+    }

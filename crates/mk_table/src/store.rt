@@ -21,7 +21,7 @@ use crate::scopes::Scopes;
 use crate::touched::{beside, is_untouched_by, put_either_within, put_within, take_either};
 use mk_net::{Event, Network, Pair, Ratio};
 use mk_passes::{
-    RATIO_SHIFT, append_until, copy_over, keep_value, one, put_cells, times_cells, times_shares,
+    RATIO_SHIFT, append_until, keep_value, one, put_cells, times_cells, times_shares,
     times_supports, times_units,
 };
 use mk_scope::Places;
@@ -257,8 +257,12 @@ impl Store {
     {
         let count = scopes.scope(k).cells();
         self.heads[k].place = Place::Written(first);
-        self.digits[first..first + count].copy_from_slice(&spare.digits);
-        self.exponents[first..first + count].copy_from_slice(&spare.exponents);
+        put_over(
+            &mut self.digits[first..first + count],
+            &mut self.exponents[first..first + count],
+            &spare.digits,
+            &spare.exponents,
+        );
     }
 
     /// Multiplies each cell of a table by the share that it picks in the rows of a variable.
@@ -585,11 +589,16 @@ impl Store {
             (head_in self.new.heads.items out).touched }
     {
         let shift = self.heads[first].shift + self.heads[second].shift;
-        let touched = self.heads[first].touched;
-        let others = self.heads[second].touched;
+        let mut touched = None;
+        put_either_within(
+            &self.heads[first].touched,
+            &self.heads[second].touched,
+            scopes.scope(out),
+            &mut touched,
+        );
         let head = &mut self.heads[out];
         head.shift = shift;
-        put_either_within(&touched, &others, scopes.scope(out), &mut head.touched);
+        head.touched = touched;
     }
 
     /// Makes each cell of a table 1. Its place stays.
@@ -636,8 +645,11 @@ impl Spare {
         ensures exponents_room { vec_capacity self.old.exponents ≤ vec_capacity self.new.exponents }
     {
         let (digits, exponents) = store.cells(scopes, k);
-        copy_over(digits, &mut self.digits);
-        copy_over(exponents, &mut self.exponents);
+        self.clear();
+        for cell in 0..digits.len() {
+            self.digits.push_reserved(digits[cell]);
+            self.exponents.push_reserved(exponents[cell]);
+        }
     }
 }
 
@@ -664,6 +676,21 @@ fn put_each<T: Copy>(values: &mut [T], value: T)
 {
     for place in 0..values.len() {
         values[place] = value;
+    }
+}
+
+/// Puts each cell over another. Most messages have few cells, so a loop costs less than two calls that copy.
+#[inline]
+fn put_over(digits: &mut [u64], exponents: &mut [u32], from: &[u64], from_exponents: &[u32])
+    requires digits { length digits.old ≡ length from.now }
+    requires exponents { length exponents.old ≡ length from.now }
+    requires as_many { length from_exponents.now ≡ length from.now }
+    ensures digits { digits.new ≡ from.now }
+    ensures exponents { exponents.new ≡ from_exponents.now }
+{
+    for cell in 0..from.len() {
+        digits[cell] = from[cell];
+        exponents[cell] = from_exponents[cell];
     }
 }
 

@@ -22,8 +22,8 @@ use crate::touched::pairs_within;
 use mk_cell::Cell;
 use mk_net::{Event, Network, NoMemory, Pair, Ratio};
 use mk_passes::{
-    Columns, Lists, copy_over, fill, margin_times, one, plus_at_chosen, plus_of_each,
-    plus_of_listed, plus_of_products,
+    Columns, Lists, fill, margin_times, one, plus_at_chosen, plus_of_each, plus_of_listed,
+    plus_of_products,
 };
 use mk_scope::{CellList, Places};
 use mk_semiring::Semiring;

@@ -1,115 +1,64 @@
-use Rattle.std.proofs.Common.{◌+◌, ◌-◌, ◌<◌, All, List, take, drop, arith, ap, sym, subst, ◌∙◌}
+use Rattle.std.proofs.Common.{◌+◌, ◌-◌, ◌<◌, take, drop, All, arith, ap, sym, subst, ◌∙◌}
 use Rattle.mk_net.specs.Named.{variable_at}
 use Rattle.mk_sums.specs.There.{support_there}
-use Rattle.mk_scope.specs.Scopes.{ScopeOf, HasSized, cells_in}
+use Rattle.mk_passes.specs.Parts.{IsTimes}
+use Rattle.mk_scope.specs.Scopes.{HasSized}
+use Rattle.mk_table.proofs.Ranges.{room_same}
 use Rattle.mk_scope.specs.Cells.{values_at}
-use Rattle.mk_table.specs.Tables.{TableOf}
+use Rattle.mk_scope.specs.Scopes.{ScopeOf, cells_in}
 use Rattle.mk_table.specs.Lists.{table_in}
-use Rattle.mk_passes.specs.Parts.{IsFull, IsChanged, IsTimes}
-use Rattle.mk_table.specs.inner.Store.{scope_in, tables_of}
-use Rattle.mk_table.proofs.Stored.{cells_there, range_digits, range_exponents, range_full, tables_length}
-use Rattle.mk_table.proofs.Ranges.{passed_store, passed_tables, after_digits, after_exponents, after_tables, changed_same, room_same}
+use Rattle.mk_passes.specs.Parts.{IsFull}
+use Rattle.mk_table.specs.inner.Store.{store_tables}
+use Rattle.mk_table.proofs.Lent.{IsRange, is_range, Lends, is_lent, has_passed, changed_passed}
 use Rattle.mk_table.proofs.store.Store.times_support.Goals as goal
+use Rattle.mk_table.proofs.store.Store.times_support.Goals.{After-cells, After-deref_mut-2}
+
+range : (c : After-cells) → IsRange c.written-first.new.self c.written-first.result c.cells.result
+range c = is_range _ c.written-first.new.self c.written-first.ensures.store _ c.requires.table _ c.written-first.ensures.place _ (c.cells.ensures.cells ∙ ap cells_in c.scope-scope.ensures)
+
+lends : (c : After-deref_mut-2) → Lends c.args.scopes.now c.args.self.now c.written-first.new.self c.args.k c.written-first.result c.cells.result c.deref_mut.result.now c.deref_mut-2.result.now
+lends c =
+    let w = c.written-first.ensures in let counted = c.cells.ensures.cells ∙ ap cells_in c.scope-scope.ensures in
+    record { store = w.store; heads = w.heads; tables = w.tables; within = c.requires.table; place = w.place; counted = counted; digits = c.deref_mut.ensures.value; exponents = c.deref_mut-2.ensures.value }
 
 pub overflow_add-end : goal.overflow_add-end
-overflow_add-end c =
-    let s = c.written-first.new.self in let scopes = c.args.scopes.now in let k = c.args.k in let first = c.written-first.result in
-    let is = c.written-first.ensures.store in let place = c.written-first.ensures.place in
-    let counted = c.cells.ensures.cells ∙ ap cells_in c.scope-scope.ensures in
-    let there = cells_there scopes s.heads.items s.digits.items s.exponents.items _ _ _ is k c.requires.table first place in
-    omega (arith, there, counted, s.digits.ok.0, s.exponents.ok.0, is.same_length)
+overflow_add-end c = let r = range (goal.at.overflow_add-end c).After-cells in let s = c.written-first.new.self in omega (arith, r.digits, r.exponents, s.digits.ok.0, s.exponents.ok.0)
 
 pub offset_bounds-deref_mut-first : goal.offset_bounds-deref_mut-first
-offset_bounds-deref_mut-first c =
-    let s = c.written-first.new.self in let scopes = c.args.scopes.now in let k = c.args.k in let first = c.written-first.result in
-    let is = c.written-first.ensures.store in let place = c.written-first.ensures.place in
-    let counted = c.cells.ensures.cells ∙ ap cells_in c.scope-scope.ensures in
-    let there = cells_there scopes s.heads.items s.digits.items s.exponents.items _ _ _ is k c.requires.table first place in
-    omega (arith, there, counted, s.digits.ok.0, s.exponents.ok.0, is.same_length, c.deref_mut.ensures.len)
+offset_bounds-deref_mut-first c = let r = range (goal.at.offset_bounds-deref_mut-first c).After-cells in let s = c.written-first.new.self in omega (arith, r.digits, r.exponents, s.digits.ok.0, s.exponents.ok.0, c.deref_mut.ensures.len)
 
 pub slice_bounds-times_supports-end : goal.slice_bounds-times_supports-end
-slice_bounds-times_supports-end c =
-    let s = c.written-first.new.self in let scopes = c.args.scopes.now in let k = c.args.k in let first = c.written-first.result in
-    let is = c.written-first.ensures.store in let place = c.written-first.ensures.place in
-    let counted = c.cells.ensures.cells ∙ ap cells_in c.scope-scope.ensures in
-    let there = cells_there scopes s.heads.items s.digits.items s.exponents.items _ _ _ is k c.requires.table first place in
-    omega (arith, there, counted, s.digits.ok.0, s.exponents.ok.0, is.same_length, c.deref_mut.ensures.len)
+slice_bounds-times_supports-end c = let r = range (goal.at.slice_bounds-times_supports-end c).After-cells in let s = c.written-first.new.self in omega (arith, r.digits, r.exponents, s.digits.ok.0, s.exponents.ok.0, c.deref_mut.ensures.len)
 
 pub offset_bounds-deref_mut-first-2 : goal.offset_bounds-deref_mut-first-2
-offset_bounds-deref_mut-first-2 c =
-    let s = c.written-first.new.self in let scopes = c.args.scopes.now in let k = c.args.k in let first = c.written-first.result in
-    let is = c.written-first.ensures.store in let place = c.written-first.ensures.place in
-    let counted = c.cells.ensures.cells ∙ ap cells_in c.scope-scope.ensures in
-    let there = cells_there scopes s.heads.items s.digits.items s.exponents.items _ _ _ is k c.requires.table first place in
-    omega (arith, there, counted, s.digits.ok.0, s.exponents.ok.0, is.same_length, c.deref_mut-2.ensures.len)
+offset_bounds-deref_mut-first-2 c = let r = range (goal.at.offset_bounds-deref_mut-first-2 c).After-cells in let s = c.written-first.new.self in omega (arith, r.digits, r.exponents, s.digits.ok.0, s.exponents.ok.0, c.deref_mut-2.ensures.len)
 
 pub slice_bounds-times_supports-end-2 : goal.slice_bounds-times_supports-end-2
-slice_bounds-times_supports-end-2 c =
-    let s = c.written-first.new.self in let scopes = c.args.scopes.now in let k = c.args.k in let first = c.written-first.result in
-    let is = c.written-first.ensures.store in let place = c.written-first.ensures.place in
-    let counted = c.cells.ensures.cells ∙ ap cells_in c.scope-scope.ensures in
-    let there = cells_there scopes s.heads.items s.digits.items s.exponents.items _ _ _ is k c.requires.table first place in
-    omega (arith, there, counted, s.digits.ok.0, s.exponents.ok.0, is.same_length, c.deref_mut-2.ensures.len)
+slice_bounds-times_supports-end-2 c = let r = range (goal.at.slice_bounds-times_supports-end-2 c).After-cells in let s = c.written-first.new.self in omega (arith, r.digits, r.exponents, s.digits.ok.0, s.exponents.ok.0, c.deref_mut-2.ensures.len)
 
 pub times_supports-requires-clause-full : goal.times_supports-requires-clause-full
 times_supports-requires-clause-full c =
-    let s = c.written-first.new.self in let scopes = c.args.scopes.now in let k = c.args.k in let first = c.written-first.result in
-    let is = c.written-first.ensures.store in let place = c.written-first.ensures.place in
-    let counted = c.cells.ensures.cells ∙ ap cells_in c.scope-scope.ensures in
-    let range : IsFull (scope_in scopes k) (take (first + c.cells.result - first) (drop first c.deref_mut.result.now)) (take (first + c.cells.result - first) (drop first c.deref_mut-2.result.now)) = range_full scopes s.heads.items s.digits.items s.exponents.items _ _ _ is k c.requires.table first place c.cells.result counted c.deref_mut.result.now c.deref_mut-2.result.now c.deref_mut.ensures.value c.deref_mut-2.ensures.value in
-    subst (λ (x : ScopeOf). IsFull x (take (first + c.cells.result - first) (drop first c.deref_mut.result.now)) (take (first + c.cells.result - first) (drop first c.deref_mut-2.result.now))) (sym c.scope-scope.ensures) range
+    let lend = is_lent (lends (goal.at.times_supports-requires-clause-full c).After-deref_mut-2) in let first = c.written-first.result in let range = first + c.cells.result - first in
+    subst (λ (x : ScopeOf). IsFull x (take range (drop first c.deref_mut.result.now)) (take range (drop first c.deref_mut-2.result.now))) (sym c.scope-scope.ensures) lend.full
 
 pub times_supports-requires-clause-room : goal.times_supports-requires-clause-room
-times_supports-requires-clause-room c =
-    let s = c.written-first.new.self in let scopes = c.args.scopes.now in let k = c.args.k in let first = c.written-first.result in
-    let is = c.written-first.ensures.store in let place = c.written-first.ensures.place in
-    let counted = c.cells.ensures.cells ∙ ap cells_in c.scope-scope.ensures in
-    let old = tables_of scopes c.args.self.now.heads.items c.args.self.now.digits.items c.args.self.now.exponents.items in
-    let from_d = range_digits scopes s.heads.items s.digits.items s.exponents.items _ _ _ is k c.requires.table first place c.cells.result counted c.deref_mut.result.now c.deref_mut-2.result.now c.deref_mut.ensures.value c.deref_mut-2.ensures.value ∙ ap (λ (ts : List TableOf). (table_in ts k).digits) c.written-first.ensures.tables in
-    let from_e = range_exponents scopes s.heads.items s.digits.items s.exponents.items _ _ _ is k c.requires.table first place c.cells.result counted c.deref_mut.result.now c.deref_mut-2.result.now c.deref_mut.ensures.value c.deref_mut-2.ensures.value ∙ ap (λ (ts : List TableOf). (table_in ts k).exponents) c.written-first.ensures.tables in
-    room_same 1 _ _ _ _ from_d from_e c.requires.room
+times_supports-requires-clause-room c = let lend = is_lent (lends (goal.at.times_supports-requires-clause-room c).After-deref_mut-2) in room_same 1 _ _ _ _ lend.digits lend.exponents c.requires.room
 
 pub times_supports-requires-clause-family : goal.times_supports-requires-clause-family
 times_supports-requires-clause-family c = subst (λ (x : ScopeOf). HasSized c.args.net.now x c.args.variable) (sym c.scope-scope.ensures) c.requires.family
 
 pub times_supports-requires-clause-parents : goal.times_supports-requires-clause-parents
-times_supports-requires-clause-parents c = subst (λ (x : ScopeOf). All (HasSized c.args.net.now x) (variable_at c.args.net.now c.args.variable).parents) (sym c.scope-scope.ensures) c.requires.parents
+times_supports-requires-clause-parents c =
+    subst (λ (x : ScopeOf). All (HasSized c.args.net.now x) (variable_at c.args.net.now c.args.variable).parents) (sym c.scope-scope.ensures) c.requires.parents
 
 pub returns-clause-store : goal.returns-clause-store
-returns-clause-store c =
-    let s = c.written-first.new.self in let scopes = c.args.scopes.now in let k = c.args.k in let first = c.written-first.result in
-    let is = c.written-first.ensures.store in let place = c.written-first.ensures.place in
-    let counted = c.cells.ensures.cells ∙ ap cells_in c.scope-scope.ensures in
-    let full = range_full scopes s.heads.items s.digits.items s.exponents.items _ _ _ is k c.requires.table first place c.cells.result counted c.deref_mut.result.now c.deref_mut-2.result.now c.deref_mut.ensures.value c.deref_mut-2.ensures.value in
-    let nd_long = c.times_supports.ensures.as_many_digits ∙ full.as_many_digits in let ne_long = c.times_supports.ensures.as_many_exponents ∙ full.as_many_exponents in
-    passed_store scopes s.heads.items s.digits s.exponents _ _ _ is c.written-first.ensures.heads k c.requires.table first place c.cells.result counted c.deref_mut.result.now c.deref_mut-2.result.now c.deref_mut.ensures.value c.deref_mut-2.ensures.value c.times_supports.new.digits c.times_supports.new.exponents
-    nd_long ne_long (omega (arith, s.digits.ok.0)) (omega (arith, s.exponents.ok.0))
+returns-clause-store c = (has_passed (lends (goal.at.returns-clause-store c).After-deref_mut-2) _ _ c.times_supports.ensures.as_many_digits c.times_supports.ensures.as_many_exponents).store
 
 pub returns-clause-tables : goal.returns-clause-tables
-returns-clause-tables c =
-    let s = c.written-first.new.self in let scopes = c.args.scopes.now in let k = c.args.k in let first = c.written-first.result in
-    let is = c.written-first.ensures.store in let place = c.written-first.ensures.place in
-    let counted = c.cells.ensures.cells ∙ ap cells_in c.scope-scope.ensures in
-    let old = tables_of scopes c.args.self.now.heads.items c.args.self.now.digits.items c.args.self.now.exponents.items in
-    let from_d = range_digits scopes s.heads.items s.digits.items s.exponents.items _ _ _ is k c.requires.table first place c.cells.result counted c.deref_mut.result.now c.deref_mut-2.result.now c.deref_mut.ensures.value c.deref_mut-2.ensures.value ∙ ap (λ (ts : List TableOf). (table_in ts k).digits) c.written-first.ensures.tables in
-    let from_e = range_exponents scopes s.heads.items s.digits.items s.exponents.items _ _ _ is k c.requires.table first place c.cells.result counted c.deref_mut.result.now c.deref_mut-2.result.now c.deref_mut.ensures.value c.deref_mut-2.ensures.value ∙ ap (λ (ts : List TableOf). (table_in ts k).exponents) c.written-first.ensures.tables in
-    let full = range_full scopes s.heads.items s.digits.items s.exponents.items _ _ _ is k c.requires.table first place c.cells.result counted c.deref_mut.result.now c.deref_mut-2.result.now c.deref_mut.ensures.value c.deref_mut-2.ensures.value in
-    let nd_long = c.times_supports.ensures.as_many_digits ∙ full.as_many_digits in let ne_long = c.times_supports.ensures.as_many_exponents ∙ full.as_many_exponents in
-    let made = passed_tables scopes s.heads.items s.digits s.exponents _ _ _ is c.written-first.ensures.heads k c.requires.table first place c.cells.result counted c.deref_mut.result.now c.deref_mut-2.result.now c.deref_mut.ensures.value c.deref_mut-2.ensures.value c.times_supports.new.digits c.times_supports.new.exponents
-    nd_long ne_long (omega (arith, s.digits.ok.0)) (omega (arith, s.exponents.ok.0)) in
-    after_tables old _ _ k (let n = tables_length scopes c.args.self.now.heads.items c.args.self.now.digits.items c.args.self.now.exponents.items in omega (arith, n, c.requires.table)) c.written-first.ensures.tables c.times_supports.new.digits c.times_supports.new.exponents made
+returns-clause-tables c = (has_passed (lends (goal.at.returns-clause-tables c).After-deref_mut-2) _ _ c.times_supports.ensures.as_many_digits c.times_supports.ensures.as_many_exponents).tables
 
 pub returns-clause-changed : goal.returns-clause-changed
 returns-clause-changed c =
-    let s = c.written-first.new.self in let scopes = c.args.scopes.now in let k = c.args.k in let first = c.written-first.result in
-    let is = c.written-first.ensures.store in let place = c.written-first.ensures.place in
-    let counted = c.cells.ensures.cells ∙ ap cells_in c.scope-scope.ensures in
-    let old = tables_of scopes c.args.self.now.heads.items c.args.self.now.digits.items c.args.self.now.exponents.items in
-    let from_d = range_digits scopes s.heads.items s.digits.items s.exponents.items _ _ _ is k c.requires.table first place c.cells.result counted c.deref_mut.result.now c.deref_mut-2.result.now c.deref_mut.ensures.value c.deref_mut-2.ensures.value ∙ ap (λ (ts : List TableOf). (table_in ts k).digits) c.written-first.ensures.tables in
-    let from_e = range_exponents scopes s.heads.items s.digits.items s.exponents.items _ _ _ is k c.requires.table first place c.cells.result counted c.deref_mut.result.now c.deref_mut-2.result.now c.deref_mut.ensures.value c.deref_mut-2.ensures.value ∙ ap (λ (ts : List TableOf). (table_in ts k).exponents) c.written-first.ensures.tables in
-    let full = range_full scopes s.heads.items s.digits.items s.exponents.items _ _ _ is k c.requires.table first place c.cells.result counted c.deref_mut.result.now c.deref_mut-2.result.now c.deref_mut.ensures.value c.deref_mut-2.ensures.value in
-    let nd_long = c.times_supports.ensures.as_many_digits ∙ full.as_many_digits in let ne_long = c.times_supports.ensures.as_many_exponents ∙ full.as_many_exponents in
-    let made = passed_tables scopes s.heads.items s.digits s.exponents _ _ _ is c.written-first.ensures.heads k c.requires.table first place c.cells.result counted c.deref_mut.result.now c.deref_mut-2.result.now c.deref_mut.ensures.value c.deref_mut-2.ensures.value c.times_supports.new.digits c.times_supports.new.exponents
-    nd_long ne_long (omega (arith, s.digits.ok.0)) (omega (arith, s.exponents.ok.0)) in
-    changed_same (λ i d e y z. IsTimes d e 0 (support_there c.args.net.now c.args.variable (values_at (scope_in scopes k) i)) 0 y z) (λ i. i < cells_in (scope_in scopes k)) _ _ _ _ _ _ _ _ from_d from_e (sym (after_digits old _ _ k (let n = tables_length scopes c.args.self.now.heads.items c.args.self.now.digits.items c.args.self.now.exponents.items in omega (arith, n, c.requires.table)) c.written-first.ensures.tables c.times_supports.new.digits c.times_supports.new.exponents made)) (sym (after_exponents old _ _ k (let n = tables_length scopes c.args.self.now.heads.items c.args.self.now.digits.items c.args.self.now.exponents.items in omega (arith, n, c.requires.table)) c.written-first.ensures.tables c.times_supports.new.digits c.times_supports.new.exponents made))
-    (subst (λ (x : ScopeOf). IsChanged (λ i d e y z. IsTimes d e 0 (support_there c.args.net.now c.args.variable (values_at x i)) 0 y z) (λ i. i < cells_in x) (take (first + c.cells.result - first) (drop first c.deref_mut.result.now)) (take (first + c.cells.result - first) (drop first c.deref_mut-2.result.now)) c.times_supports.new.digits c.times_supports.new.exponents) c.scope-scope.ensures c.times_supports.ensures)
+    let at = goal.at.returns-clause-changed c in let made = has_passed (lends at.After-deref_mut-2) _ _ c.times_supports.ensures.as_many_digits c.times_supports.ensures.as_many_exponents in
+    changed_passed (λ x i d e y z. IsTimes d e 0 (support_there c.args.net.now c.args.variable (values_at x i)) 0 y z) (λ x i. i < cells_in x) _ _ c.scope-scope.ensures
+    (table_in (store_tables c.args.scopes.now c.args.self.now) c.args.k) _ _ _ _ _ _ (is_lent (lends at.After-deref_mut-2)) made.digits made.exponents c.times_supports.ensures

@@ -1,133 +1,83 @@
-use Rattle.std.proofs.Common.{◌≡◌, ℕ, ◌==◌, true, List, ap, sym, subst, ◌∙◌, refl, cond}
+use Rattle.std.proofs.Common.{◌≡◌, ℕ, ◌<◌, ◌==◌, true, cond, length, sym, subst, refl}
 use Rattle.std.specs.Prelude.{Option, None}
-use Rattle.mk_scope.specs.Scopes.{ScopeOf, cells_in, has_variable}
+use Rattle.mk_scope.specs.Scopes.{ScopeOf, has_variable}
 use Rattle.mk_scope.specs.Cells.{values_at}
-use Rattle.mk_table.specs.Tables.{TableOf}
 use Rattle.mk_table.specs.Lists.{table_in}
 use Rattle.mk_table.specs.Ratios.{KeepsPairs}
-use Rattle.mk_table.specs.inner.Numbers.{AreNumbers}
 use Rattle.mk_table.specs.inner.Touched.{IsBeside}
-use Rattle.mk_table.specs.inner.Store.{scope_in, head_in, tables_of, store_tables}
-use Rattle.mk_table.proofs.Whole.{touched_cells, kept_numbers}
-use Rattle.mk_table.proofs.Stored.{table_is_full, table_shift, table_touched}
-use Rattle.mk_table.proofs.Ranges.{after_is}
-use Rattle.mk_table.proofs.Made.{seen_within, seen_scope, seen_parts, made_only, made_full, made_numbers, made_shift, made_touched, both_steps, at_shift, at_touched}
+use Rattle.mk_table.specs.inner.Store.{head_in, store_tables}
+use Rattle.mk_table.proofs.Whole.{kept_numbers}
+use Rattle.mk_table.proofs.Seen.{IsSeen, is_seen, opened, HasHeads, heads_kept, HasBecome, both_become, cells_long}
+use Rattle.mk_table.proofs.tables.Tables.restrict.Given.{Over}
 use Rattle.mk_table.proofs.tables.Tables.restrict.Goals as goal
+use Rattle.mk_table.proofs.tables.Tables.restrict.Goals.{After-open, After-restrict, After-keep_beside}
+
+seen : (g : Over) (c : After-open g) (k : ℕ) → k < length c.args.self.now → IsSeen c.deref-scopes.result.now c.open.new.self c.args.self.now k
+seen g c = is_seen _ c.open.new.self _ c.open.ensures.store (opened _ _ c.deref-scopes.ensures c.self.inside.store c.open.new.self _ c.open.ensures.tables
+    c.self.view_is)
+
+heads : (g : Over) (c : After-restrict g) → HasHeads c.args.self.now c.restrict.new.self
+heads g c =
+    heads_kept _ _ c.open.new.self c.restrict.new.self (opened _ _ c.deref-scopes.ensures c.self.inside.store c.open.new.self _ c.open.ensures.tables
+    c.self.view_is) _ c.requires.table
+    c.restrict.ensures.store _ _ c.restrict.ensures.tables
+
+becomes : (g : Over) (c : After-keep_beside g) → HasHeads c.args.self.now c.restrict.new.self →
+    let after = table_in (store_tables c.deref-scopes.result.now c.restrict.new.self) c.args.k in
+    HasBecome c.args.self.now (store_tables c.self.inside.scopes.value c.keep_beside.new.self) c.args.k
+    ((table_in c.args.self.now c.args.k).shift) after.digits after.exponents
+    (head_in c.keep_beside.new.self.heads.items c.args.k).touched
+becomes g c keep =
+    both_become _ _ c.deref-scopes.ensures _ c.open.new.self c.restrict.new.self c.keep_beside.new.self
+    (opened _ _ c.deref-scopes.ensures c.self.inside.store c.open.new.self _ c.open.ensures.tables c.self.view_is)
+    _ c.requires.table _ _ _ _ (keep.shift _ c.requires.table) _ c.restrict.ensures.tables c.keep_beside.ensures.tables
+
+beside : (g : Over) (c : After-keep_beside g) → HasHeads c.args.self.now c.restrict.new.self
+    → IsBeside c.args.pair (table_in c.args.self.now c.args.k).touched (head_in c.keep_beside.new.self.heads.items c.args.k).touched
+beside g c keep = subst (λ (t : Option _). IsBeside c.args.pair t (head_in c.keep_beside.new.self.heads.items c.args.k).touched)
+    (keep.touched _ c.requires.table) c.keep_beside.ensures.beside
 
 pub restrict-requires-clause-table : goal.restrict-requires-clause-table
 restrict-requires-clause-table g c =
-    let S = c.deref-scopes.result.now in let now = c.args.self.now in let k = c.args.k in let o = c.open.new.self in
-    let view : tables_of S o.heads.items o.digits.items o.exponents.items ≡ now = c.open.ensures.tables ∙ ap (λ (x : List ScopeOf). store_tables x c.self.inside.store) c.deref-scopes.ensures ∙ c.self.view_is in
-    let within = seen_within S o.heads.items o.digits.items o.exponents.items now view k c.requires.table in
-    let scope_is = seen_scope S o.heads.items o.digits.items o.exponents.items _ _ _ c.open.ensures.store now view k within in
-    within
+    (seen g (goal.at.restrict-requires-clause-table g c).After-open c.args.k c.requires.table).within
 
 pub restrict-requires-clause-variable : goal.restrict-requires-clause-variable
 restrict-requires-clause-variable g c =
-    let S = c.deref-scopes.result.now in let now = c.args.self.now in let k = c.args.k in let o = c.open.new.self in
-    let view : tables_of S o.heads.items o.digits.items o.exponents.items ≡ now = c.open.ensures.tables ∙ ap (λ (x : List ScopeOf). store_tables x c.self.inside.store) c.deref-scopes.ensures ∙ c.self.view_is in
-    let within = seen_within S o.heads.items o.digits.items o.exponents.items now view k c.requires.table in
-    let scope_is = seen_scope S o.heads.items o.digits.items o.exponents.items _ _ _ c.open.ensures.store now view k within in
-    subst (λ (x : ScopeOf). has_variable x c.args.pair.variable ≡ true) (sym scope_is) c.requires.variable
+    subst (λ (x : ScopeOf). has_variable x c.args.pair.variable ≡ true) (sym (seen g (goal.at.restrict-requires-clause-variable g c).After-open c.args.k
+    c.requires.table).scope) c.requires.variable
 
 pub keep_beside-requires-clause-table : goal.keep_beside-requires-clause-table
 keep_beside-requires-clause-table g c =
-    let S = c.deref-scopes.result.now in let now = c.args.self.now in let k = c.args.k in let o = c.open.new.self in
-    let view : tables_of S o.heads.items o.digits.items o.exponents.items ≡ now = c.open.ensures.tables ∙ ap (λ (x : List ScopeOf). store_tables x c.self.inside.store) c.deref-scopes.ensures ∙ c.self.view_is in
-    let within = seen_within S o.heads.items o.digits.items o.exponents.items now view k c.requires.table in
-    let scope_is = seen_scope S o.heads.items o.digits.items o.exponents.items _ _ _ c.open.ensures.store now view k within in
-    within
+    (seen g (goal.at.keep_beside-requires-clause-table g c).After-open c.args.k c.requires.table).within
 
 pub returns-clause-only : goal.returns-clause-only
 returns-clause-only g c =
-    let S = c.deref-scopes.result.now in let now = c.args.self.now in let k = c.args.k in let o = c.open.new.self in
-    let view : tables_of S o.heads.items o.digits.items o.exponents.items ≡ now = c.open.ensures.tables ∙ ap (λ (x : List ScopeOf). store_tables x c.self.inside.store) c.deref-scopes.ensures ∙ c.self.view_is in
-    let within = seen_within S o.heads.items o.digits.items o.exponents.items now view k c.requires.table in
-    let scope_is = seen_scope S o.heads.items o.digits.items o.exponents.items _ _ _ c.open.ensures.store now view k within in
-    let w = c.restrict.new.self in let T = tables_of S w.heads.items w.digits.items w.exponents.items in let nd : List ℕ = (table_in T k).digits in let ne : List ℕ = (table_in T k).exponents in
-    let z = c.keep_beside.new.self in let touched = (head_in z.heads.items k).touched in
-    let last : tables_of c.self.inside.scopes.value z.heads.items z.digits.items z.exponents.items ≡ tables_of S z.heads.items z.digits.items z.exponents.items = ap (λ (x : List ScopeOf). store_tables x z) (sym c.deref-scopes.ensures) in
-    let made = last ∙ both_steps now (tables_of S o.heads.items o.digits.items o.exponents.items) T (tables_of S z.heads.items z.digits.items z.exponents.items) k c.requires.table view nd ne ((head_in c.restrict.new.self.heads.items k).shift) touched c.restrict.ensures.tables c.keep_beside.ensures.tables in
-    let full = table_is_full S w.heads.items w.digits.items w.exponents.items _ _ _ c.restrict.ensures.store k within in
-    let later : (table_in T k).shift ≡ (table_in now k).shift = ap (λ (ts : List TableOf). (table_in ts k).shift) (after_is now (tables_of S o.heads.items o.digits.items o.exponents.items) T k c.requires.table view nd ne c.restrict.ensures.tables) ∙ at_shift now k c.requires.table nd ne in
-    let later_too : (table_in T k).touched ≡ (table_in now k).touched = ap (λ (ts : List TableOf). (table_in ts k).touched) (after_is now (tables_of S o.heads.items o.digits.items o.exponents.items) T k c.requires.table view nd ne c.restrict.ensures.tables) ∙ at_touched now k c.requires.table nd ne in
-    let shift_is : (head_in w.heads.items k).shift ≡ (table_in now k).shift = sym (table_shift S w.heads.items w.digits.items w.exponents.items _ _ _ c.restrict.ensures.store k within) ∙ later in
-    let touched_is : (head_in w.heads.items k).touched ≡ (table_in now k).touched = sym (table_touched S w.heads.items w.digits.items w.exponents.items _ _ _ c.restrict.ensures.store k within) ∙ later_too in
-    let parts = seen_parts S o.heads.items o.digits.items o.exponents.items _ _ _ c.open.ensures.store now view k within (scope_in S k) (table_in (tables_of S o.heads.items o.digits.items o.exponents.items) k).digits (table_in (tables_of S o.heads.items o.digits.items o.exponents.items) k).exponents refl refl refl in
-    made_only now _ k c.requires.table ((head_in c.restrict.new.self.heads.items k).shift) nd ne touched made
+    let keep = heads g (goal.at.returns-clause-only g c).After-restrict in let made = becomes g (goal.at.returns-clause-only g c).After-keep_beside keep in
+    made.only
 
 pub returns-clause-full : goal.returns-clause-full
 returns-clause-full g c =
-    let S = c.deref-scopes.result.now in let now = c.args.self.now in let k = c.args.k in let o = c.open.new.self in
-    let view : tables_of S o.heads.items o.digits.items o.exponents.items ≡ now = c.open.ensures.tables ∙ ap (λ (x : List ScopeOf). store_tables x c.self.inside.store) c.deref-scopes.ensures ∙ c.self.view_is in
-    let within = seen_within S o.heads.items o.digits.items o.exponents.items now view k c.requires.table in
-    let scope_is = seen_scope S o.heads.items o.digits.items o.exponents.items _ _ _ c.open.ensures.store now view k within in
-    let w = c.restrict.new.self in let T = tables_of S w.heads.items w.digits.items w.exponents.items in let nd : List ℕ = (table_in T k).digits in let ne : List ℕ = (table_in T k).exponents in
-    let z = c.keep_beside.new.self in let touched = (head_in z.heads.items k).touched in
-    let last : tables_of c.self.inside.scopes.value z.heads.items z.digits.items z.exponents.items ≡ tables_of S z.heads.items z.digits.items z.exponents.items = ap (λ (x : List ScopeOf). store_tables x z) (sym c.deref-scopes.ensures) in
-    let made = last ∙ both_steps now (tables_of S o.heads.items o.digits.items o.exponents.items) T (tables_of S z.heads.items z.digits.items z.exponents.items) k c.requires.table view nd ne ((head_in c.restrict.new.self.heads.items k).shift) touched c.restrict.ensures.tables c.keep_beside.ensures.tables in
-    let full = table_is_full S w.heads.items w.digits.items w.exponents.items _ _ _ c.restrict.ensures.store k within in
-    let later : (table_in T k).shift ≡ (table_in now k).shift = ap (λ (ts : List TableOf). (table_in ts k).shift) (after_is now (tables_of S o.heads.items o.digits.items o.exponents.items) T k c.requires.table view nd ne c.restrict.ensures.tables) ∙ at_shift now k c.requires.table nd ne in
-    let later_too : (table_in T k).touched ≡ (table_in now k).touched = ap (λ (ts : List TableOf). (table_in ts k).touched) (after_is now (tables_of S o.heads.items o.digits.items o.exponents.items) T k c.requires.table view nd ne c.restrict.ensures.tables) ∙ at_touched now k c.requires.table nd ne in
-    let shift_is : (head_in w.heads.items k).shift ≡ (table_in now k).shift = sym (table_shift S w.heads.items w.digits.items w.exponents.items _ _ _ c.restrict.ensures.store k within) ∙ later in
-    let touched_is : (head_in w.heads.items k).touched ≡ (table_in now k).touched = sym (table_touched S w.heads.items w.digits.items w.exponents.items _ _ _ c.restrict.ensures.store k within) ∙ later_too in
-    let parts = seen_parts S o.heads.items o.digits.items o.exponents.items _ _ _ c.open.ensures.store now view k within (scope_in S k) (table_in (tables_of S o.heads.items o.digits.items o.exponents.items) k).digits (table_in (tables_of S o.heads.items o.digits.items o.exponents.items) k).exponents refl refl refl in
-    made_full now _ k c.requires.table ((head_in c.restrict.new.self.heads.items k).shift) nd ne touched made (full.as_many_digits ∙ ap cells_in scope_is)
+    let k = seen g (goal.at.returns-clause-full g c).After-open c.args.k c.requires.table in
+    let keep = heads g (goal.at.returns-clause-full g c).After-restrict in let made = becomes g (goal.at.returns-clause-full g c).After-keep_beside keep in
+    made.full (cells_long _ c.restrict.new.self c.restrict.ensures.store _ k.within _ k.scope)
 
 pub returns-clause-shift : goal.returns-clause-shift
 returns-clause-shift g c =
-    let S = c.deref-scopes.result.now in let now = c.args.self.now in let k = c.args.k in let o = c.open.new.self in
-    let view : tables_of S o.heads.items o.digits.items o.exponents.items ≡ now = c.open.ensures.tables ∙ ap (λ (x : List ScopeOf). store_tables x c.self.inside.store) c.deref-scopes.ensures ∙ c.self.view_is in
-    let within = seen_within S o.heads.items o.digits.items o.exponents.items now view k c.requires.table in
-    let scope_is = seen_scope S o.heads.items o.digits.items o.exponents.items _ _ _ c.open.ensures.store now view k within in
-    let w = c.restrict.new.self in let T = tables_of S w.heads.items w.digits.items w.exponents.items in let nd : List ℕ = (table_in T k).digits in let ne : List ℕ = (table_in T k).exponents in
-    let z = c.keep_beside.new.self in let touched = (head_in z.heads.items k).touched in
-    let last : tables_of c.self.inside.scopes.value z.heads.items z.digits.items z.exponents.items ≡ tables_of S z.heads.items z.digits.items z.exponents.items = ap (λ (x : List ScopeOf). store_tables x z) (sym c.deref-scopes.ensures) in
-    let made = last ∙ both_steps now (tables_of S o.heads.items o.digits.items o.exponents.items) T (tables_of S z.heads.items z.digits.items z.exponents.items) k c.requires.table view nd ne ((head_in c.restrict.new.self.heads.items k).shift) touched c.restrict.ensures.tables c.keep_beside.ensures.tables in
-    let full = table_is_full S w.heads.items w.digits.items w.exponents.items _ _ _ c.restrict.ensures.store k within in
-    let later : (table_in T k).shift ≡ (table_in now k).shift = ap (λ (ts : List TableOf). (table_in ts k).shift) (after_is now (tables_of S o.heads.items o.digits.items o.exponents.items) T k c.requires.table view nd ne c.restrict.ensures.tables) ∙ at_shift now k c.requires.table nd ne in
-    let later_too : (table_in T k).touched ≡ (table_in now k).touched = ap (λ (ts : List TableOf). (table_in ts k).touched) (after_is now (tables_of S o.heads.items o.digits.items o.exponents.items) T k c.requires.table view nd ne c.restrict.ensures.tables) ∙ at_touched now k c.requires.table nd ne in
-    let shift_is : (head_in w.heads.items k).shift ≡ (table_in now k).shift = sym (table_shift S w.heads.items w.digits.items w.exponents.items _ _ _ c.restrict.ensures.store k within) ∙ later in
-    let touched_is : (head_in w.heads.items k).touched ≡ (table_in now k).touched = sym (table_touched S w.heads.items w.digits.items w.exponents.items _ _ _ c.restrict.ensures.store k within) ∙ later_too in
-    let parts = seen_parts S o.heads.items o.digits.items o.exponents.items _ _ _ c.open.ensures.store now view k within (scope_in S k) (table_in (tables_of S o.heads.items o.digits.items o.exponents.items) k).digits (table_in (tables_of S o.heads.items o.digits.items o.exponents.items) k).exponents refl refl refl in
-    made_shift now _ k c.requires.table ((head_in c.restrict.new.self.heads.items k).shift) nd ne touched made ∙ shift_is
+    let keep = heads g (goal.at.returns-clause-shift g c).After-restrict in let made = becomes g (goal.at.returns-clause-shift g c).After-keep_beside keep in
+    made.shift_is
 
 pub returns-clause-numbers : goal.returns-clause-numbers
 returns-clause-numbers g c =
-    let S = c.deref-scopes.result.now in let now = c.args.self.now in let k = c.args.k in let o = c.open.new.self in
-    let view : tables_of S o.heads.items o.digits.items o.exponents.items ≡ now = c.open.ensures.tables ∙ ap (λ (x : List ScopeOf). store_tables x c.self.inside.store) c.deref-scopes.ensures ∙ c.self.view_is in
-    let within = seen_within S o.heads.items o.digits.items o.exponents.items now view k c.requires.table in
-    let scope_is = seen_scope S o.heads.items o.digits.items o.exponents.items _ _ _ c.open.ensures.store now view k within in
-    let w = c.restrict.new.self in let T = tables_of S w.heads.items w.digits.items w.exponents.items in let nd : List ℕ = (table_in T k).digits in let ne : List ℕ = (table_in T k).exponents in
-    let z = c.keep_beside.new.self in let touched = (head_in z.heads.items k).touched in
-    let last : tables_of c.self.inside.scopes.value z.heads.items z.digits.items z.exponents.items ≡ tables_of S z.heads.items z.digits.items z.exponents.items = ap (λ (x : List ScopeOf). store_tables x z) (sym c.deref-scopes.ensures) in
-    let made = last ∙ both_steps now (tables_of S o.heads.items o.digits.items o.exponents.items) T (tables_of S z.heads.items z.digits.items z.exponents.items) k c.requires.table view nd ne ((head_in c.restrict.new.self.heads.items k).shift) touched c.restrict.ensures.tables c.keep_beside.ensures.tables in
-    let full = table_is_full S w.heads.items w.digits.items w.exponents.items _ _ _ c.restrict.ensures.store k within in
-    let later : (table_in T k).shift ≡ (table_in now k).shift = ap (λ (ts : List TableOf). (table_in ts k).shift) (after_is now (tables_of S o.heads.items o.digits.items o.exponents.items) T k c.requires.table view nd ne c.restrict.ensures.tables) ∙ at_shift now k c.requires.table nd ne in
-    let later_too : (table_in T k).touched ≡ (table_in now k).touched = ap (λ (ts : List TableOf). (table_in ts k).touched) (after_is now (tables_of S o.heads.items o.digits.items o.exponents.items) T k c.requires.table view nd ne c.restrict.ensures.tables) ∙ at_touched now k c.requires.table nd ne in
-    let shift_is : (head_in w.heads.items k).shift ≡ (table_in now k).shift = sym (table_shift S w.heads.items w.digits.items w.exponents.items _ _ _ c.restrict.ensures.store k within) ∙ later in
-    let touched_is : (head_in w.heads.items k).touched ≡ (table_in now k).touched = sym (table_touched S w.heads.items w.digits.items w.exponents.items _ _ _ c.restrict.ensures.store k within) ∙ later_too in
-    let parts = seen_parts S o.heads.items o.digits.items o.exponents.items _ _ _ c.open.ensures.store now view k within (scope_in S k) (table_in (tables_of S o.heads.items o.digits.items o.exponents.items) k).digits (table_in (tables_of S o.heads.items o.digits.items o.exponents.items) k).exponents refl refl refl in
-    let beside : IsBeside c.args.pair (table_in now k).touched touched = subst (λ (t : Option _). IsBeside c.args.pair t touched) touched_is c.keep_beside.ensures.beside in
-    λ f n has. made_numbers now _ k c.requires.table ((head_in c.restrict.new.self.heads.items k).shift) nd ne touched made (λ i. cond (values_at (table_in now k).scope i c.args.pair.variable == c.args.pair.value) (f i) 0) n
-    (subst (λ i. AreNumbers (touched_cells touched (table_in now k).scope) i nd ne (λ j. cond (values_at (table_in now k).scope j c.args.pair.variable == c.args.pair.value) (f j) 0) n) (sym shift_is)
-    (kept_numbers _ _ _ _ _ parts c.args.pair nd ne touched c.restrict.ensures.changed beside f n has))
+    let k = seen g (goal.at.returns-clause-numbers g c).After-open c.args.k c.requires.table in
+    let keep = heads g (goal.at.returns-clause-numbers g c).After-restrict in let made = becomes g
+    (goal.at.returns-clause-numbers g c).After-keep_beside keep in
+    λ f n has. made.numbers (λ i. cond (values_at (table_in c.args.self.now c.args.k).scope i c.args.pair.variable == c.args.pair.value) (f i) 0) n
+    (kept_numbers _ _ _ _ _ (k.parts _ _ _ refl refl refl) c.args.pair _ _ _ c.restrict.ensures.changed
+    (beside g (goal.at.returns-clause-numbers g c).After-keep_beside keep) f n has)
 
 pub returns-clause-touched : goal.returns-clause-touched
 returns-clause-touched g c =
-    let S = c.deref-scopes.result.now in let now = c.args.self.now in let k = c.args.k in let o = c.open.new.self in
-    let view : tables_of S o.heads.items o.digits.items o.exponents.items ≡ now = c.open.ensures.tables ∙ ap (λ (x : List ScopeOf). store_tables x c.self.inside.store) c.deref-scopes.ensures ∙ c.self.view_is in
-    let within = seen_within S o.heads.items o.digits.items o.exponents.items now view k c.requires.table in
-    let scope_is = seen_scope S o.heads.items o.digits.items o.exponents.items _ _ _ c.open.ensures.store now view k within in
-    let w = c.restrict.new.self in let T = tables_of S w.heads.items w.digits.items w.exponents.items in let nd : List ℕ = (table_in T k).digits in let ne : List ℕ = (table_in T k).exponents in
-    let z = c.keep_beside.new.self in let touched = (head_in z.heads.items k).touched in
-    let last : tables_of c.self.inside.scopes.value z.heads.items z.digits.items z.exponents.items ≡ tables_of S z.heads.items z.digits.items z.exponents.items = ap (λ (x : List ScopeOf). store_tables x z) (sym c.deref-scopes.ensures) in
-    let made = last ∙ both_steps now (tables_of S o.heads.items o.digits.items o.exponents.items) T (tables_of S z.heads.items z.digits.items z.exponents.items) k c.requires.table view nd ne ((head_in c.restrict.new.self.heads.items k).shift) touched c.restrict.ensures.tables c.keep_beside.ensures.tables in
-    let full = table_is_full S w.heads.items w.digits.items w.exponents.items _ _ _ c.restrict.ensures.store k within in
-    let later : (table_in T k).shift ≡ (table_in now k).shift = ap (λ (ts : List TableOf). (table_in ts k).shift) (after_is now (tables_of S o.heads.items o.digits.items o.exponents.items) T k c.requires.table view nd ne c.restrict.ensures.tables) ∙ at_shift now k c.requires.table nd ne in
-    let later_too : (table_in T k).touched ≡ (table_in now k).touched = ap (λ (ts : List TableOf). (table_in ts k).touched) (after_is now (tables_of S o.heads.items o.digits.items o.exponents.items) T k c.requires.table view nd ne c.restrict.ensures.tables) ∙ at_touched now k c.requires.table nd ne in
-    let shift_is : (head_in w.heads.items k).shift ≡ (table_in now k).shift = sym (table_shift S w.heads.items w.digits.items w.exponents.items _ _ _ c.restrict.ensures.store k within) ∙ later in
-    let touched_is : (head_in w.heads.items k).touched ≡ (table_in now k).touched = sym (table_touched S w.heads.items w.digits.items w.exponents.items _ _ _ c.restrict.ensures.store k within) ∙ later_too in
-    let parts = seen_parts S o.heads.items o.digits.items o.exponents.items _ _ _ c.open.ensures.store now view k within (scope_in S k) (table_in (tables_of S o.heads.items o.digits.items o.exponents.items) k).digits (table_in (tables_of S o.heads.items o.digits.items o.exponents.items) k).exponents refl refl refl in
-    let beside : IsBeside c.args.pair (table_in now k).touched touched = subst (λ (t : Option _). IsBeside c.args.pair t touched) touched_is c.keep_beside.ensures.beside in
-    subst (λ (t : Option _). KeepsPairs (table_in now k).scope (table_in now k).touched None t) (sym (made_touched now _ k c.requires.table ((head_in c.restrict.new.self.heads.items k).shift) nd ne touched made)) (beside.kept (table_in now k).scope)
+    let keep = heads g (goal.at.returns-clause-touched g c).After-restrict in let made = becomes g
+    (goal.at.returns-clause-touched g c).After-keep_beside keep in
+    subst (λ (t : Option _). KeepsPairs (table_in c.args.self.now c.args.k).scope (table_in c.args.self.now c.args.k).touched None t) (sym made.touched_is)
+    ((beside g (goal.at.returns-clause-touched g c).After-keep_beside keep).kept (table_in c.args.self.now c.args.k).scope)

@@ -1,341 +1,155 @@
-use Rattle.std.proofs.Common.{◌≡◌, ℕ, ◌+◌, ◌*◌, ◌<◌, ◌≤◌, List, length, arith, ap, sym, subst, ◌∙◌, refl}
+use Rattle.std.proofs.Common.{◌≡◌, ℕ, ◌+◌, ◌*◌, ◌<◌, length, arith, ap, sym, subst, ◌∙◌, refl}
 use Rattle.std.specs.Prelude.{Option}
-use Rattle.std.specs.Prelude.{vec_capacity}
 use Rattle.mk_scope.specs.Cells.{cell_in}
-use Rattle.mk_scope.specs.Scopes.{ScopeOf, PlacesOf, LiesIn, cells_in}
-use Rattle.mk_table.specs.Tables.{TableOf}
+use Rattle.mk_scope.specs.Scopes.{ScopeOf, cells_in}
 use Rattle.mk_table.specs.Lists.{table_in}
-use Rattle.mk_table.specs.Ratios.{KeepsPairs}
 use Rattle.mk_passes.specs.Parts.{AreBlankOrFull}
-use Rattle.mk_table.specs.inner.Numbers.{AreNumbers}
-use Rattle.mk_table.specs.inner.Touched.{IsEither}
 use Rattle.mk_passes.specs.Blank.{one_digits, one_exponent, filled}
-use Rattle.mk_table.specs.inner.Store.{scope_in, head_in, tables_of, store_tables}
-use Rattle.mk_table.proofs.Whole.{parts_room, touched_cells, message_numbers}
-use Rattle.mk_table.proofs.Stored.{table_is_full, table_shift, table_touched}
-use Rattle.mk_table.proofs.Ranges.{after_is}
-use Rattle.mk_table.proofs.Made.{seen_within, seen_scope, seen_parts, made_only, made_full, made_numbers, made_shift, made_touched, both_steps, at_shift, at_touched, other_table}
+use Rattle.mk_table.specs.inner.Touched.{IsEither}
+use Rattle.mk_table.specs.inner.Store.{head_in, scope_in, store_tables}
+use Rattle.mk_table.specs.Ratios.{KeepsPairs}
+use Rattle.mk_table.proofs.Whole.{AreParts, parts_room, message_numbers}
+use Rattle.mk_table.proofs.Seen.{IsSeen, is_seen, opened, HasHeads, heads_kept, HasBecome, both_become, cells_long}
+use Rattle.mk_table.proofs.Seen.{ArePlaced, are_placed, parts_filled, room_lent}
+use Rattle.mk_table.proofs.tables.Tables.times_message.Given.{Over}
 use Rattle.mk_table.proofs.tables.Tables.times_message.Goals as goal
+use Rattle.mk_table.proofs.tables.Tables.times_message.Goals.{After-open, After-take, After-times, After-take_ratios}
+
+seen : (g : Over) (c : After-open g) (k : ℕ) → k < length c.args.self.now → IsSeen c.deref-scopes.result.now c.open.new.self c.args.self.now k
+seen g c = is_seen _ c.open.new.self _ c.open.ensures.store (opened _ _ c.deref-scopes.ensures c.self.inside.store c.open.new.self _ c.open.ensures.tables
+    c.self.view_is)
+
+placed : (g : Over) (c : After-open g) → ArePlaced c.deref-scopes.result.now c.args.self.now c.args.k c.args.message c.args.places.now
+placed g c = are_placed _ c.open.new.self _ _ _ _ c.requires.places (seen g c _ c.requires.table) (seen g c _ c.requires.message_table)
+
+heads : (g : Over) (c : After-times g) → HasHeads c.args.self.now c.times.new.self
+heads g c =
+    heads_kept _ _ c.open.new.self c.times.new.self (opened _ _ c.deref-scopes.ensures c.self.inside.store c.open.new.self _ c.open.ensures.tables
+    c.self.view_is) _ c.requires.table
+    c.times.ensures.store _ _ c.times.ensures.tables
+
+becomes : (g : Over) (c : After-take_ratios g) → HasHeads c.args.self.now c.times.new.self →
+    let after = table_in (store_tables c.deref-scopes.result.now c.times.new.self) c.args.k in
+    HasBecome c.args.self.now (store_tables c.self.inside.scopes.value c.take_ratios.new.self) c.args.k
+    ((table_in c.args.self.now c.args.k).shift + (table_in c.args.self.now c.args.message).shift) after.digits after.exponents
+    (head_in c.take_ratios.new.self.heads.items c.args.k).touched
+becomes g c keep =
+    both_become _ _ c.deref-scopes.ensures _ c.open.new.self c.times.new.self c.take_ratios.new.self
+    (opened _ _ c.deref-scopes.ensures c.self.inside.store c.open.new.self _ c.open.ensures.tables c.self.view_is)
+    _ c.requires.table _ _ _ _ (ap (λ i. i + (head_in c.times.new.self.heads.items c.args.message).shift) (keep.shift _ c.requires.table)
+    ∙ ap (λ i. (table_in c.args.self.now c.args.k).shift + i) (keep.shift _ c.requires.message_table)) _ c.times.ensures.tables c.take_ratios.ensures.tables
+
+parts : (g : Over) (c : After-take g) → IsSeen c.deref-scopes.result.now c.open.new.self c.args.self.now c.args.message →
+    let part = c.args.places.now.part in let m = table_in c.args.self.now c.args.message in
+    part ≡ scope_in c.deref-scopes.result.now c.args.message
+    → AreParts m part m.shift (filled one_digits (cells_in part) c.take.new.self.digits.items)
+    (filled one_exponent (cells_in part) c.take.new.self.exponents.items)
+parts g c m part_is = parts_filled _ c.open.new.self _ _ m _ _ _ part_is c.take.ensures.digits c.take.ensures.exponents
+
+either : (g : Over) (c : After-take_ratios g) → HasHeads c.args.self.now c.times.new.self
+    → IsEither (table_in c.args.self.now c.args.k).touched (table_in c.args.self.now c.args.message).touched
+    (head_in c.take_ratios.new.self.heads.items c.args.k).touched
+either g c keep =
+    subst (λ (t : Option _). IsEither t (table_in c.args.self.now c.args.message).touched (head_in c.take_ratios.new.self.heads.items c.args.k).touched)
+    (keep.touched _ c.requires.table)
+    (subst (λ (t : Option _). IsEither (head_in c.times.new.self.heads.items c.args.k).touched t (head_in c.take_ratios.new.self.heads.items c.args.k).touched)
+    (keep.touched _ c.requires.message_table) c.take_ratios.ensures.either)
 
 pub take-requires-clause-table : goal.take-requires-clause-table
 take-requires-clause-table g c =
-    let S = c.deref-scopes.result.now in let now = c.args.self.now in let k = c.args.k in let o = c.open.new.self in
-    let view : tables_of S o.heads.items o.digits.items o.exponents.items ≡ now = c.open.ensures.tables ∙ ap (λ (x : List ScopeOf). store_tables x c.self.inside.store) c.deref-scopes.ensures ∙ c.self.view_is in
-    let within = seen_within S o.heads.items o.digits.items o.exponents.items now view k c.requires.table in
-    let scope_is = seen_scope S o.heads.items o.digits.items o.exponents.items _ _ _ c.open.ensures.store now view k within in
-    let m = c.args.message in let part = c.args.places.now.part in let whole = c.args.places.now.whole in
-    let within_m = seen_within S o.heads.items o.digits.items o.exponents.items now view m c.requires.message_table in
-    let scope_m = seen_scope S o.heads.items o.digits.items o.exponents.items _ _ _ c.open.ensures.store now view m within_m in
-    let whole_is : whole ≡ scope_in S k = ap (λ (x : PlacesOf). x.whole) c.requires.places ∙ sym scope_is in
-    let part_is : part ≡ scope_in S m = ap (λ (x : PlacesOf). x.part) c.requires.places ∙ sym scope_m in
-    within_m
+    (seen g (goal.at.take-requires-clause-table g c).After-open c.args.message c.requires.message_table).within
 
 pub take-requires-clause-digits_fit : goal.take-requires-clause-digits_fit
 take-requires-clause-digits_fit g c =
-    let S = c.deref-scopes.result.now in let now = c.args.self.now in let k = c.args.k in let o = c.open.new.self in
-    let view : tables_of S o.heads.items o.digits.items o.exponents.items ≡ now = c.open.ensures.tables ∙ ap (λ (x : List ScopeOf). store_tables x c.self.inside.store) c.deref-scopes.ensures ∙ c.self.view_is in
-    let within = seen_within S o.heads.items o.digits.items o.exponents.items now view k c.requires.table in
-    let scope_is = seen_scope S o.heads.items o.digits.items o.exponents.items _ _ _ c.open.ensures.store now view k within in
-    let m = c.args.message in let part = c.args.places.now.part in let whole = c.args.places.now.whole in
-    let within_m = seen_within S o.heads.items o.digits.items o.exponents.items now view m c.requires.message_table in
-    let scope_m = seen_scope S o.heads.items o.digits.items o.exponents.items _ _ _ c.open.ensures.store now view m within_m in
-    let whole_is : whole ≡ scope_in S k = ap (λ (x : PlacesOf). x.whole) c.requires.places ∙ sym scope_is in
-    let part_is : part ≡ scope_in S m = ap (λ (x : PlacesOf). x.part) c.requires.places ∙ sym scope_m in
-    let fit = subst (λ (x : List ScopeOf). (j : ℕ) → j < length x → cells_in (scope_in x j) ≤ vec_capacity c.self.inside.spare.digits) (sym c.deref-scopes.ensures) c.self.invariant.digits_fit in
-    fit m within_m
+    room_lent _ _ c.deref-scopes.ensures _ c.self.invariant.digits_fit _ (seen g (goal.at.take-requires-clause-digits_fit g c).After-open c.args.message
+    c.requires.message_table).within
 
 pub take-requires-clause-exponents_fit : goal.take-requires-clause-exponents_fit
 take-requires-clause-exponents_fit g c =
-    let S = c.deref-scopes.result.now in let now = c.args.self.now in let k = c.args.k in let o = c.open.new.self in
-    let view : tables_of S o.heads.items o.digits.items o.exponents.items ≡ now = c.open.ensures.tables ∙ ap (λ (x : List ScopeOf). store_tables x c.self.inside.store) c.deref-scopes.ensures ∙ c.self.view_is in
-    let within = seen_within S o.heads.items o.digits.items o.exponents.items now view k c.requires.table in
-    let scope_is = seen_scope S o.heads.items o.digits.items o.exponents.items _ _ _ c.open.ensures.store now view k within in
-    let m = c.args.message in let part = c.args.places.now.part in let whole = c.args.places.now.whole in
-    let within_m = seen_within S o.heads.items o.digits.items o.exponents.items now view m c.requires.message_table in
-    let scope_m = seen_scope S o.heads.items o.digits.items o.exponents.items _ _ _ c.open.ensures.store now view m within_m in
-    let whole_is : whole ≡ scope_in S k = ap (λ (x : PlacesOf). x.whole) c.requires.places ∙ sym scope_is in
-    let part_is : part ≡ scope_in S m = ap (λ (x : PlacesOf). x.part) c.requires.places ∙ sym scope_m in
-    let fit = subst (λ (x : List ScopeOf). (j : ℕ) → j < length x → cells_in (scope_in x j) ≤ vec_capacity c.self.inside.spare.exponents) (sym c.deref-scopes.ensures) c.self.invariant.exponents_fit in
-    fit m within_m
+    room_lent _ _ c.deref-scopes.ensures _ c.self.invariant.exponents_fit _ (seen g (goal.at.take-requires-clause-exponents_fit g c).After-open c.args.message
+    c.requires.message_table).within
 
 pub times-requires-clause-table : goal.times-requires-clause-table
 times-requires-clause-table g c =
-    let S = c.deref-scopes.result.now in let now = c.args.self.now in let k = c.args.k in let o = c.open.new.self in
-    let view : tables_of S o.heads.items o.digits.items o.exponents.items ≡ now = c.open.ensures.tables ∙ ap (λ (x : List ScopeOf). store_tables x c.self.inside.store) c.deref-scopes.ensures ∙ c.self.view_is in
-    let within = seen_within S o.heads.items o.digits.items o.exponents.items now view k c.requires.table in
-    let scope_is = seen_scope S o.heads.items o.digits.items o.exponents.items _ _ _ c.open.ensures.store now view k within in
-    let m = c.args.message in let part = c.args.places.now.part in let whole = c.args.places.now.whole in
-    let within_m = seen_within S o.heads.items o.digits.items o.exponents.items now view m c.requires.message_table in
-    let scope_m = seen_scope S o.heads.items o.digits.items o.exponents.items _ _ _ c.open.ensures.store now view m within_m in
-    let whole_is : whole ≡ scope_in S k = ap (λ (x : PlacesOf). x.whole) c.requires.places ∙ sym scope_is in
-    let part_is : part ≡ scope_in S m = ap (λ (x : PlacesOf). x.part) c.requires.places ∙ sym scope_m in
-    within
+    (seen g (goal.at.times-requires-clause-table g c).After-open c.args.k c.requires.table).within
 
 pub times-requires-clause-places : goal.times-requires-clause-places
 times-requires-clause-places g c =
-    let S = c.deref-scopes.result.now in let now = c.args.self.now in let k = c.args.k in let o = c.open.new.self in
-    let view : tables_of S o.heads.items o.digits.items o.exponents.items ≡ now = c.open.ensures.tables ∙ ap (λ (x : List ScopeOf). store_tables x c.self.inside.store) c.deref-scopes.ensures ∙ c.self.view_is in
-    let within = seen_within S o.heads.items o.digits.items o.exponents.items now view k c.requires.table in
-    let scope_is = seen_scope S o.heads.items o.digits.items o.exponents.items _ _ _ c.open.ensures.store now view k within in
-    let m = c.args.message in let part = c.args.places.now.part in let whole = c.args.places.now.whole in
-    let within_m = seen_within S o.heads.items o.digits.items o.exponents.items now view m c.requires.message_table in
-    let scope_m = seen_scope S o.heads.items o.digits.items o.exponents.items _ _ _ c.open.ensures.store now view m within_m in
-    let whole_is : whole ≡ scope_in S k = ap (λ (x : PlacesOf). x.whole) c.requires.places ∙ sym scope_is in
-    let part_is : part ≡ scope_in S m = ap (λ (x : PlacesOf). x.part) c.requires.places ∙ sym scope_m in
-    whole_is
+    (placed g (goal.at.times-requires-clause-places g c).After-open).whole_is
 
 pub times-requires-clause-whole : goal.times-requires-clause-whole
 times-requires-clause-whole g c =
-    let S = c.deref-scopes.result.now in let now = c.args.self.now in let k = c.args.k in let o = c.open.new.self in
-    let view : tables_of S o.heads.items o.digits.items o.exponents.items ≡ now = c.open.ensures.tables ∙ ap (λ (x : List ScopeOf). store_tables x c.self.inside.store) c.deref-scopes.ensures ∙ c.self.view_is in
-    let within = seen_within S o.heads.items o.digits.items o.exponents.items now view k c.requires.table in
-    let scope_is = seen_scope S o.heads.items o.digits.items o.exponents.items _ _ _ c.open.ensures.store now view k within in
-    let m = c.args.message in let part = c.args.places.now.part in let whole = c.args.places.now.whole in
-    let within_m = seen_within S o.heads.items o.digits.items o.exponents.items now view m c.requires.message_table in
-    let scope_m = seen_scope S o.heads.items o.digits.items o.exponents.items _ _ _ c.open.ensures.store now view m within_m in
-    let whole_is : whole ≡ scope_in S k = ap (λ (x : PlacesOf). x.whole) c.requires.places ∙ sym scope_is in
-    let part_is : part ≡ scope_in S m = ap (λ (x : PlacesOf). x.part) c.requires.places ∙ sym scope_m in
-    subst (λ (x : ScopeOf). AreBlankOrFull (cells_in x) c.take.new.self.digits.items c.take.new.self.exponents.items) (sym part_is) c.take.ensures.whole
+    subst (λ (x : ScopeOf). AreBlankOrFull (cells_in x) c.take.new.self.digits.items c.take.new.self.exponents.items)
+    (sym (placed g (goal.at.times-requires-clause-whole g c).After-open).part_is) c.take.ensures.whole
 
 pub times-requires-clause-room : goal.times-requires-clause-room
 times-requires-clause-room g c =
-    let S = c.deref-scopes.result.now in let now = c.args.self.now in let k = c.args.k in let o = c.open.new.self in
-    let view : tables_of S o.heads.items o.digits.items o.exponents.items ≡ now = c.open.ensures.tables ∙ ap (λ (x : List ScopeOf). store_tables x c.self.inside.store) c.deref-scopes.ensures ∙ c.self.view_is in
-    let within = seen_within S o.heads.items o.digits.items o.exponents.items now view k c.requires.table in
-    let scope_is = seen_scope S o.heads.items o.digits.items o.exponents.items _ _ _ c.open.ensures.store now view k within in
-    let m = c.args.message in let part = c.args.places.now.part in let whole = c.args.places.now.whole in
-    let within_m = seen_within S o.heads.items o.digits.items o.exponents.items now view m c.requires.message_table in
-    let scope_m = seen_scope S o.heads.items o.digits.items o.exponents.items _ _ _ c.open.ensures.store now view m within_m in
-    let whole_is : whole ≡ scope_in S k = ap (λ (x : PlacesOf). x.whole) c.requires.places ∙ sym scope_is in
-    let part_is : part ≡ scope_in S m = ap (λ (x : PlacesOf). x.part) c.requires.places ∙ sym scope_m in
-    let parts = seen_parts S o.heads.items o.digits.items o.exponents.items _ _ _ c.open.ensures.store now view k within whole (table_in (tables_of S o.heads.items o.digits.items o.exponents.items) k).digits (table_in (tables_of S o.heads.items o.digits.items o.exponents.items) k).exponents whole_is refl refl in
-    parts_room _ _ _ _ _ parts 1 1 c.requires.room (omega arith)
+    let k = seen g (goal.at.times-requires-clause-room g c).After-open c.args.k c.requires.table in
+    let m = seen g (goal.at.times-requires-clause-room g c).After-open c.args.message c.requires.message_table in
+    let p = placed g (goal.at.times-requires-clause-room g c).After-open in
+    parts_room _ _ _ _ _ (k.parts _ _ _ p.whole_is refl refl) 1 1 c.requires.room (omega arith)
 
 pub times-requires-clause-other_room : goal.times-requires-clause-other_room
 times-requires-clause-other_room g c =
-    let S = c.deref-scopes.result.now in let now = c.args.self.now in let k = c.args.k in let o = c.open.new.self in
-    let view : tables_of S o.heads.items o.digits.items o.exponents.items ≡ now = c.open.ensures.tables ∙ ap (λ (x : List ScopeOf). store_tables x c.self.inside.store) c.deref-scopes.ensures ∙ c.self.view_is in
-    let within = seen_within S o.heads.items o.digits.items o.exponents.items now view k c.requires.table in
-    let scope_is = seen_scope S o.heads.items o.digits.items o.exponents.items _ _ _ c.open.ensures.store now view k within in
-    let m = c.args.message in let part = c.args.places.now.part in let whole = c.args.places.now.whole in
-    let within_m = seen_within S o.heads.items o.digits.items o.exponents.items now view m c.requires.message_table in
-    let scope_m = seen_scope S o.heads.items o.digits.items o.exponents.items _ _ _ c.open.ensures.store now view m within_m in
-    let whole_is : whole ≡ scope_in S k = ap (λ (x : PlacesOf). x.whole) c.requires.places ∙ sym scope_is in
-    let part_is : part ≡ scope_in S m = ap (λ (x : PlacesOf). x.part) c.requires.places ∙ sym scope_m in
-    let xs = c.take.new.self.digits.items in let ys = c.take.new.self.exponents.items in
-    let others = seen_parts S o.heads.items o.digits.items o.exponents.items _ _ _ c.open.ensures.store now view m within_m part (filled one_digits (cells_in part) xs) (filled one_exponent (cells_in part) ys) part_is (ap (λ (x : ScopeOf). filled one_digits (cells_in x) xs) part_is ∙ c.take.ensures.digits)
-    (ap (λ (x : ScopeOf). filled one_exponent (cells_in x) ys) part_is ∙ c.take.ensures.exponents) in
-    parts_room _ _ _ _ _ others 1 1 c.requires.message_room (omega arith)
+    let k = seen g (goal.at.times-requires-clause-other_room g c).After-open c.args.k c.requires.table in
+    let m = seen g (goal.at.times-requires-clause-other_room g c).After-open c.args.message c.requires.message_table in
+    let p = placed g (goal.at.times-requires-clause-other_room g c).After-open in
+    parts_room _ _ _ _ _ (parts g (goal.at.times-requires-clause-other_room g c).After-take m p.part_is) 1 1 c.requires.message_room (omega arith)
 
 pub take_ratios-requires-clause-table : goal.take_ratios-requires-clause-table
 take_ratios-requires-clause-table g c =
-    let S = c.deref-scopes.result.now in let now = c.args.self.now in let k = c.args.k in let o = c.open.new.self in
-    let view : tables_of S o.heads.items o.digits.items o.exponents.items ≡ now = c.open.ensures.tables ∙ ap (λ (x : List ScopeOf). store_tables x c.self.inside.store) c.deref-scopes.ensures ∙ c.self.view_is in
-    let within = seen_within S o.heads.items o.digits.items o.exponents.items now view k c.requires.table in
-    let scope_is = seen_scope S o.heads.items o.digits.items o.exponents.items _ _ _ c.open.ensures.store now view k within in
-    let m = c.args.message in let part = c.args.places.now.part in let whole = c.args.places.now.whole in
-    let within_m = seen_within S o.heads.items o.digits.items o.exponents.items now view m c.requires.message_table in
-    let scope_m = seen_scope S o.heads.items o.digits.items o.exponents.items _ _ _ c.open.ensures.store now view m within_m in
-    let whole_is : whole ≡ scope_in S k = ap (λ (x : PlacesOf). x.whole) c.requires.places ∙ sym scope_is in
-    let part_is : part ≡ scope_in S m = ap (λ (x : PlacesOf). x.part) c.requires.places ∙ sym scope_m in
-    within
+    (seen g (goal.at.take_ratios-requires-clause-table g c).After-open c.args.k c.requires.table).within
 
 pub take_ratios-requires-clause-message_table : goal.take_ratios-requires-clause-message_table
 take_ratios-requires-clause-message_table g c =
-    let S = c.deref-scopes.result.now in let now = c.args.self.now in let k = c.args.k in let o = c.open.new.self in
-    let view : tables_of S o.heads.items o.digits.items o.exponents.items ≡ now = c.open.ensures.tables ∙ ap (λ (x : List ScopeOf). store_tables x c.self.inside.store) c.deref-scopes.ensures ∙ c.self.view_is in
-    let within = seen_within S o.heads.items o.digits.items o.exponents.items now view k c.requires.table in
-    let scope_is = seen_scope S o.heads.items o.digits.items o.exponents.items _ _ _ c.open.ensures.store now view k within in
-    let m = c.args.message in let part = c.args.places.now.part in let whole = c.args.places.now.whole in
-    let within_m = seen_within S o.heads.items o.digits.items o.exponents.items now view m c.requires.message_table in
-    let scope_m = seen_scope S o.heads.items o.digits.items o.exponents.items _ _ _ c.open.ensures.store now view m within_m in
-    let whole_is : whole ≡ scope_in S k = ap (λ (x : PlacesOf). x.whole) c.requires.places ∙ sym scope_is in
-    let part_is : part ≡ scope_in S m = ap (λ (x : PlacesOf). x.part) c.requires.places ∙ sym scope_m in
-    within_m
+    (seen g (goal.at.take_ratios-requires-clause-message_table g c).After-open c.args.message c.requires.message_table).within
 
 pub take_ratios-requires-clause-lies_in : goal.take_ratios-requires-clause-lies_in
 take_ratios-requires-clause-lies_in g c =
-    let S = c.deref-scopes.result.now in let now = c.args.self.now in let k = c.args.k in let o = c.open.new.self in
-    let view : tables_of S o.heads.items o.digits.items o.exponents.items ≡ now = c.open.ensures.tables ∙ ap (λ (x : List ScopeOf). store_tables x c.self.inside.store) c.deref-scopes.ensures ∙ c.self.view_is in
-    let within = seen_within S o.heads.items o.digits.items o.exponents.items now view k c.requires.table in
-    let scope_is = seen_scope S o.heads.items o.digits.items o.exponents.items _ _ _ c.open.ensures.store now view k within in
-    let m = c.args.message in let part = c.args.places.now.part in let whole = c.args.places.now.whole in
-    let within_m = seen_within S o.heads.items o.digits.items o.exponents.items now view m c.requires.message_table in
-    let scope_m = seen_scope S o.heads.items o.digits.items o.exponents.items _ _ _ c.open.ensures.store now view m within_m in
-    let whole_is : whole ≡ scope_in S k = ap (λ (x : PlacesOf). x.whole) c.requires.places ∙ sym scope_is in
-    let part_is : part ≡ scope_in S m = ap (λ (x : PlacesOf). x.part) c.requires.places ∙ sym scope_m in
-    let lies : LiesIn (scope_in S m) (scope_in S k) = subst (λ (x : ScopeOf). LiesIn x (scope_in S k)) part_is (subst (λ (x : ScopeOf). LiesIn part x) whole_is c.times.ensures.lies_in) in
-    let lies_now : LiesIn (table_in now m).scope (table_in now k).scope = subst (λ (x : ScopeOf). LiesIn x (table_in now k).scope) scope_m (subst (λ (x : ScopeOf). LiesIn (scope_in S m) x) scope_is lies) in
-    lies
+    (placed g (goal.at.take_ratios-requires-clause-lies_in g c).After-open).lies_kept c.times.ensures.lies_in
 
 pub take_ratios-requires-clause-small : goal.take_ratios-requires-clause-small
 take_ratios-requires-clause-small g c =
-    let S = c.deref-scopes.result.now in let now = c.args.self.now in let k = c.args.k in let o = c.open.new.self in
-    let view : tables_of S o.heads.items o.digits.items o.exponents.items ≡ now = c.open.ensures.tables ∙ ap (λ (x : List ScopeOf). store_tables x c.self.inside.store) c.deref-scopes.ensures ∙ c.self.view_is in
-    let within = seen_within S o.heads.items o.digits.items o.exponents.items now view k c.requires.table in
-    let scope_is = seen_scope S o.heads.items o.digits.items o.exponents.items _ _ _ c.open.ensures.store now view k within in
-    let m = c.args.message in let part = c.args.places.now.part in let whole = c.args.places.now.whole in
-    let within_m = seen_within S o.heads.items o.digits.items o.exponents.items now view m c.requires.message_table in
-    let scope_m = seen_scope S o.heads.items o.digits.items o.exponents.items _ _ _ c.open.ensures.store now view m within_m in
-    let whole_is : whole ≡ scope_in S k = ap (λ (x : PlacesOf). x.whole) c.requires.places ∙ sym scope_is in
-    let part_is : part ≡ scope_in S m = ap (λ (x : PlacesOf). x.part) c.requires.places ∙ sym scope_m in
-    let w = c.times.new.self in let T = tables_of S w.heads.items w.digits.items w.exponents.items in let nd = (table_in T k).digits in let ne = (table_in T k).exponents in
-    let later : (table_in T k).shift ≡ (table_in now k).shift = ap (λ (ts : List TableOf). (table_in ts k).shift) (after_is now (tables_of S o.heads.items o.digits.items o.exponents.items) T k c.requires.table view nd ne c.times.ensures.tables) ∙ at_shift now k c.requires.table nd ne in
-    let later_too : (table_in T k).touched ≡ (table_in now k).touched = ap (λ (ts : List TableOf). (table_in ts k).touched) (after_is now (tables_of S o.heads.items o.digits.items o.exponents.items) T k c.requires.table view nd ne c.times.ensures.tables) ∙ at_touched now k c.requires.table nd ne in
-    let shift_is : (head_in w.heads.items k).shift ≡ (table_in now k).shift = sym (table_shift S w.heads.items w.digits.items w.exponents.items _ _ _ c.times.ensures.store k within) ∙ later in
-    let touched_is : (head_in w.heads.items k).touched ≡ (table_in now k).touched = sym (table_touched S w.heads.items w.digits.items w.exponents.items _ _ _ c.times.ensures.store k within) ∙ later_too in
-    let s = c.requires.room.small_shift in omega (arith, s, shift_is)
+    let s = c.requires.room.small_shift in let i = (heads g (goal.at.take_ratios-requires-clause-small g c).After-times).shift _ c.requires.table in
+    omega (arith, s, i)
 
 pub take_ratios-requires-clause-small_too : goal.take_ratios-requires-clause-small_too
 take_ratios-requires-clause-small_too g c =
-    let S = c.deref-scopes.result.now in let now = c.args.self.now in let k = c.args.k in let o = c.open.new.self in
-    let view : tables_of S o.heads.items o.digits.items o.exponents.items ≡ now = c.open.ensures.tables ∙ ap (λ (x : List ScopeOf). store_tables x c.self.inside.store) c.deref-scopes.ensures ∙ c.self.view_is in
-    let within = seen_within S o.heads.items o.digits.items o.exponents.items now view k c.requires.table in
-    let scope_is = seen_scope S o.heads.items o.digits.items o.exponents.items _ _ _ c.open.ensures.store now view k within in
-    let m = c.args.message in let part = c.args.places.now.part in let whole = c.args.places.now.whole in
-    let within_m = seen_within S o.heads.items o.digits.items o.exponents.items now view m c.requires.message_table in
-    let scope_m = seen_scope S o.heads.items o.digits.items o.exponents.items _ _ _ c.open.ensures.store now view m within_m in
-    let whole_is : whole ≡ scope_in S k = ap (λ (x : PlacesOf). x.whole) c.requires.places ∙ sym scope_is in
-    let part_is : part ≡ scope_in S m = ap (λ (x : PlacesOf). x.part) c.requires.places ∙ sym scope_m in
-    let w = c.times.new.self in let T = tables_of S w.heads.items w.digits.items w.exponents.items in let nd = (table_in T k).digits in let ne = (table_in T k).exponents in
-    let kept : table_in T m ≡ table_in now m = other_table now (tables_of S o.heads.items o.digits.items o.exponents.items) T k m (λ i. c.requires.apart (sym i)) _ view c.times.ensures.tables in
-    let shift_m : (head_in w.heads.items m).shift ≡ (table_in now m).shift = sym (table_shift S w.heads.items w.digits.items w.exponents.items _ _ _ c.times.ensures.store m within_m) ∙ ap (λ (u : TableOf). u.shift) kept in
-    let touched_m : (head_in w.heads.items m).touched ≡ (table_in now m).touched = sym (table_touched S w.heads.items w.digits.items w.exponents.items _ _ _ c.times.ensures.store m within_m) ∙ ap (λ (u : TableOf). u.touched) kept in
-    let s = c.requires.message_room.small_shift in omega (arith, s, shift_m)
+    let s = c.requires.message_room.small_shift in let i = (heads g (goal.at.take_ratios-requires-clause-small_too g c).After-times).shift _
+    c.requires.message_table in
+    omega (arith, s, i)
 
 pub returns-clause-only : goal.returns-clause-only
 returns-clause-only g c =
-    let S = c.deref-scopes.result.now in let now = c.args.self.now in let k = c.args.k in let o = c.open.new.self in
-    let view : tables_of S o.heads.items o.digits.items o.exponents.items ≡ now = c.open.ensures.tables ∙ ap (λ (x : List ScopeOf). store_tables x c.self.inside.store) c.deref-scopes.ensures ∙ c.self.view_is in
-    let within = seen_within S o.heads.items o.digits.items o.exponents.items now view k c.requires.table in
-    let scope_is = seen_scope S o.heads.items o.digits.items o.exponents.items _ _ _ c.open.ensures.store now view k within in
-    let m = c.args.message in let part = c.args.places.now.part in let whole = c.args.places.now.whole in
-    let within_m = seen_within S o.heads.items o.digits.items o.exponents.items now view m c.requires.message_table in
-    let scope_m = seen_scope S o.heads.items o.digits.items o.exponents.items _ _ _ c.open.ensures.store now view m within_m in
-    let whole_is : whole ≡ scope_in S k = ap (λ (x : PlacesOf). x.whole) c.requires.places ∙ sym scope_is in
-    let part_is : part ≡ scope_in S m = ap (λ (x : PlacesOf). x.part) c.requires.places ∙ sym scope_m in
-    let w = c.times.new.self in let T = tables_of S w.heads.items w.digits.items w.exponents.items in let nd : List ℕ = (table_in T k).digits in let ne : List ℕ = (table_in T k).exponents in
-    let z = c.take_ratios.new.self in let touched = (head_in z.heads.items k).touched in
-    let last : tables_of c.self.inside.scopes.value z.heads.items z.digits.items z.exponents.items ≡ tables_of S z.heads.items z.digits.items z.exponents.items = ap (λ (x : List ScopeOf). store_tables x z) (sym c.deref-scopes.ensures) in
-    let made = last ∙ both_steps now (tables_of S o.heads.items o.digits.items o.exponents.items) T (tables_of S z.heads.items z.digits.items z.exponents.items) k c.requires.table view nd ne ((head_in c.times.new.self.heads.items k).shift + (head_in c.times.new.self.heads.items m).shift) touched c.times.ensures.tables c.take_ratios.ensures.tables in
-    let full = table_is_full S w.heads.items w.digits.items w.exponents.items _ _ _ c.times.ensures.store k within in
-    let later : (table_in T k).shift ≡ (table_in now k).shift = ap (λ (ts : List TableOf). (table_in ts k).shift) (after_is now (tables_of S o.heads.items o.digits.items o.exponents.items) T k c.requires.table view nd ne c.times.ensures.tables) ∙ at_shift now k c.requires.table nd ne in
-    let later_too : (table_in T k).touched ≡ (table_in now k).touched = ap (λ (ts : List TableOf). (table_in ts k).touched) (after_is now (tables_of S o.heads.items o.digits.items o.exponents.items) T k c.requires.table view nd ne c.times.ensures.tables) ∙ at_touched now k c.requires.table nd ne in
-    let shift_is : (head_in w.heads.items k).shift ≡ (table_in now k).shift = sym (table_shift S w.heads.items w.digits.items w.exponents.items _ _ _ c.times.ensures.store k within) ∙ later in
-    let touched_is : (head_in w.heads.items k).touched ≡ (table_in now k).touched = sym (table_touched S w.heads.items w.digits.items w.exponents.items _ _ _ c.times.ensures.store k within) ∙ later_too in
-    let kept : table_in T m ≡ table_in now m = other_table now (tables_of S o.heads.items o.digits.items o.exponents.items) T k m (λ i. c.requires.apart (sym i)) _ view c.times.ensures.tables in
-    let shift_m : (head_in w.heads.items m).shift ≡ (table_in now m).shift = sym (table_shift S w.heads.items w.digits.items w.exponents.items _ _ _ c.times.ensures.store m within_m) ∙ ap (λ (u : TableOf). u.shift) kept in
-    let touched_m : (head_in w.heads.items m).touched ≡ (table_in now m).touched = sym (table_touched S w.heads.items w.digits.items w.exponents.items _ _ _ c.times.ensures.store m within_m) ∙ ap (λ (u : TableOf). u.touched) kept in
-    made_only now _ k c.requires.table ((head_in c.times.new.self.heads.items k).shift + (head_in c.times.new.self.heads.items m).shift) nd ne touched made
+    let keep = heads g (goal.at.returns-clause-only g c).After-times in let made = becomes g (goal.at.returns-clause-only g c).After-take_ratios keep in
+    made.only
 
 pub returns-clause-full : goal.returns-clause-full
 returns-clause-full g c =
-    let S = c.deref-scopes.result.now in let now = c.args.self.now in let k = c.args.k in let o = c.open.new.self in
-    let view : tables_of S o.heads.items o.digits.items o.exponents.items ≡ now = c.open.ensures.tables ∙ ap (λ (x : List ScopeOf). store_tables x c.self.inside.store) c.deref-scopes.ensures ∙ c.self.view_is in
-    let within = seen_within S o.heads.items o.digits.items o.exponents.items now view k c.requires.table in
-    let scope_is = seen_scope S o.heads.items o.digits.items o.exponents.items _ _ _ c.open.ensures.store now view k within in
-    let m = c.args.message in let part = c.args.places.now.part in let whole = c.args.places.now.whole in
-    let within_m = seen_within S o.heads.items o.digits.items o.exponents.items now view m c.requires.message_table in
-    let scope_m = seen_scope S o.heads.items o.digits.items o.exponents.items _ _ _ c.open.ensures.store now view m within_m in
-    let whole_is : whole ≡ scope_in S k = ap (λ (x : PlacesOf). x.whole) c.requires.places ∙ sym scope_is in
-    let part_is : part ≡ scope_in S m = ap (λ (x : PlacesOf). x.part) c.requires.places ∙ sym scope_m in
-    let w = c.times.new.self in let T = tables_of S w.heads.items w.digits.items w.exponents.items in let nd : List ℕ = (table_in T k).digits in let ne : List ℕ = (table_in T k).exponents in
-    let z = c.take_ratios.new.self in let touched = (head_in z.heads.items k).touched in
-    let last : tables_of c.self.inside.scopes.value z.heads.items z.digits.items z.exponents.items ≡ tables_of S z.heads.items z.digits.items z.exponents.items = ap (λ (x : List ScopeOf). store_tables x z) (sym c.deref-scopes.ensures) in
-    let made = last ∙ both_steps now (tables_of S o.heads.items o.digits.items o.exponents.items) T (tables_of S z.heads.items z.digits.items z.exponents.items) k c.requires.table view nd ne ((head_in c.times.new.self.heads.items k).shift + (head_in c.times.new.self.heads.items m).shift) touched c.times.ensures.tables c.take_ratios.ensures.tables in
-    let full = table_is_full S w.heads.items w.digits.items w.exponents.items _ _ _ c.times.ensures.store k within in
-    let later : (table_in T k).shift ≡ (table_in now k).shift = ap (λ (ts : List TableOf). (table_in ts k).shift) (after_is now (tables_of S o.heads.items o.digits.items o.exponents.items) T k c.requires.table view nd ne c.times.ensures.tables) ∙ at_shift now k c.requires.table nd ne in
-    let later_too : (table_in T k).touched ≡ (table_in now k).touched = ap (λ (ts : List TableOf). (table_in ts k).touched) (after_is now (tables_of S o.heads.items o.digits.items o.exponents.items) T k c.requires.table view nd ne c.times.ensures.tables) ∙ at_touched now k c.requires.table nd ne in
-    let shift_is : (head_in w.heads.items k).shift ≡ (table_in now k).shift = sym (table_shift S w.heads.items w.digits.items w.exponents.items _ _ _ c.times.ensures.store k within) ∙ later in
-    let touched_is : (head_in w.heads.items k).touched ≡ (table_in now k).touched = sym (table_touched S w.heads.items w.digits.items w.exponents.items _ _ _ c.times.ensures.store k within) ∙ later_too in
-    let kept : table_in T m ≡ table_in now m = other_table now (tables_of S o.heads.items o.digits.items o.exponents.items) T k m (λ i. c.requires.apart (sym i)) _ view c.times.ensures.tables in
-    let shift_m : (head_in w.heads.items m).shift ≡ (table_in now m).shift = sym (table_shift S w.heads.items w.digits.items w.exponents.items _ _ _ c.times.ensures.store m within_m) ∙ ap (λ (u : TableOf). u.shift) kept in
-    let touched_m : (head_in w.heads.items m).touched ≡ (table_in now m).touched = sym (table_touched S w.heads.items w.digits.items w.exponents.items _ _ _ c.times.ensures.store m within_m) ∙ ap (λ (u : TableOf). u.touched) kept in
-    made_full now _ k c.requires.table ((head_in c.times.new.self.heads.items k).shift + (head_in c.times.new.self.heads.items m).shift) nd ne touched made (full.as_many_digits ∙ ap cells_in scope_is)
+    let k = seen g (goal.at.returns-clause-full g c).After-open c.args.k c.requires.table in
+    let keep = heads g (goal.at.returns-clause-full g c).After-times in let made = becomes g (goal.at.returns-clause-full g c).After-take_ratios keep in
+    made.full (cells_long _ c.times.new.self c.times.ensures.store _ k.within _ k.scope)
 
 pub returns-clause-shift : goal.returns-clause-shift
 returns-clause-shift g c =
-    let S = c.deref-scopes.result.now in let now = c.args.self.now in let k = c.args.k in let o = c.open.new.self in
-    let view : tables_of S o.heads.items o.digits.items o.exponents.items ≡ now = c.open.ensures.tables ∙ ap (λ (x : List ScopeOf). store_tables x c.self.inside.store) c.deref-scopes.ensures ∙ c.self.view_is in
-    let within = seen_within S o.heads.items o.digits.items o.exponents.items now view k c.requires.table in
-    let scope_is = seen_scope S o.heads.items o.digits.items o.exponents.items _ _ _ c.open.ensures.store now view k within in
-    let m = c.args.message in let part = c.args.places.now.part in let whole = c.args.places.now.whole in
-    let within_m = seen_within S o.heads.items o.digits.items o.exponents.items now view m c.requires.message_table in
-    let scope_m = seen_scope S o.heads.items o.digits.items o.exponents.items _ _ _ c.open.ensures.store now view m within_m in
-    let whole_is : whole ≡ scope_in S k = ap (λ (x : PlacesOf). x.whole) c.requires.places ∙ sym scope_is in
-    let part_is : part ≡ scope_in S m = ap (λ (x : PlacesOf). x.part) c.requires.places ∙ sym scope_m in
-    let w = c.times.new.self in let T = tables_of S w.heads.items w.digits.items w.exponents.items in let nd : List ℕ = (table_in T k).digits in let ne : List ℕ = (table_in T k).exponents in
-    let z = c.take_ratios.new.self in let touched = (head_in z.heads.items k).touched in
-    let last : tables_of c.self.inside.scopes.value z.heads.items z.digits.items z.exponents.items ≡ tables_of S z.heads.items z.digits.items z.exponents.items = ap (λ (x : List ScopeOf). store_tables x z) (sym c.deref-scopes.ensures) in
-    let made = last ∙ both_steps now (tables_of S o.heads.items o.digits.items o.exponents.items) T (tables_of S z.heads.items z.digits.items z.exponents.items) k c.requires.table view nd ne ((head_in c.times.new.self.heads.items k).shift + (head_in c.times.new.self.heads.items m).shift) touched c.times.ensures.tables c.take_ratios.ensures.tables in
-    let full = table_is_full S w.heads.items w.digits.items w.exponents.items _ _ _ c.times.ensures.store k within in
-    let later : (table_in T k).shift ≡ (table_in now k).shift = ap (λ (ts : List TableOf). (table_in ts k).shift) (after_is now (tables_of S o.heads.items o.digits.items o.exponents.items) T k c.requires.table view nd ne c.times.ensures.tables) ∙ at_shift now k c.requires.table nd ne in
-    let later_too : (table_in T k).touched ≡ (table_in now k).touched = ap (λ (ts : List TableOf). (table_in ts k).touched) (after_is now (tables_of S o.heads.items o.digits.items o.exponents.items) T k c.requires.table view nd ne c.times.ensures.tables) ∙ at_touched now k c.requires.table nd ne in
-    let shift_is : (head_in w.heads.items k).shift ≡ (table_in now k).shift = sym (table_shift S w.heads.items w.digits.items w.exponents.items _ _ _ c.times.ensures.store k within) ∙ later in
-    let touched_is : (head_in w.heads.items k).touched ≡ (table_in now k).touched = sym (table_touched S w.heads.items w.digits.items w.exponents.items _ _ _ c.times.ensures.store k within) ∙ later_too in
-    let kept : table_in T m ≡ table_in now m = other_table now (tables_of S o.heads.items o.digits.items o.exponents.items) T k m (λ i. c.requires.apart (sym i)) _ view c.times.ensures.tables in
-    let shift_m : (head_in w.heads.items m).shift ≡ (table_in now m).shift = sym (table_shift S w.heads.items w.digits.items w.exponents.items _ _ _ c.times.ensures.store m within_m) ∙ ap (λ (u : TableOf). u.shift) kept in
-    let touched_m : (head_in w.heads.items m).touched ≡ (table_in now m).touched = sym (table_touched S w.heads.items w.digits.items w.exponents.items _ _ _ c.times.ensures.store m within_m) ∙ ap (λ (u : TableOf). u.touched) kept in
-    made_shift now _ k c.requires.table ((head_in c.times.new.self.heads.items k).shift + (head_in c.times.new.self.heads.items m).shift) nd ne touched made ∙ ap (λ i. i + (head_in w.heads.items m).shift) shift_is ∙ ap (λ i. (table_in now k).shift + i) shift_m
+    let keep = heads g (goal.at.returns-clause-shift g c).After-times in let made = becomes g (goal.at.returns-clause-shift g c).After-take_ratios keep in
+    made.shift_is
 
 pub returns-clause-numbers : goal.returns-clause-numbers
 returns-clause-numbers g c =
-    let S = c.deref-scopes.result.now in let now = c.args.self.now in let k = c.args.k in let o = c.open.new.self in
-    let view : tables_of S o.heads.items o.digits.items o.exponents.items ≡ now = c.open.ensures.tables ∙ ap (λ (x : List ScopeOf). store_tables x c.self.inside.store) c.deref-scopes.ensures ∙ c.self.view_is in
-    let within = seen_within S o.heads.items o.digits.items o.exponents.items now view k c.requires.table in
-    let scope_is = seen_scope S o.heads.items o.digits.items o.exponents.items _ _ _ c.open.ensures.store now view k within in
-    let m = c.args.message in let part = c.args.places.now.part in let whole = c.args.places.now.whole in
-    let within_m = seen_within S o.heads.items o.digits.items o.exponents.items now view m c.requires.message_table in
-    let scope_m = seen_scope S o.heads.items o.digits.items o.exponents.items _ _ _ c.open.ensures.store now view m within_m in
-    let whole_is : whole ≡ scope_in S k = ap (λ (x : PlacesOf). x.whole) c.requires.places ∙ sym scope_is in
-    let part_is : part ≡ scope_in S m = ap (λ (x : PlacesOf). x.part) c.requires.places ∙ sym scope_m in
-    let w = c.times.new.self in let T = tables_of S w.heads.items w.digits.items w.exponents.items in let nd : List ℕ = (table_in T k).digits in let ne : List ℕ = (table_in T k).exponents in
-    let z = c.take_ratios.new.self in let touched = (head_in z.heads.items k).touched in
-    let last : tables_of c.self.inside.scopes.value z.heads.items z.digits.items z.exponents.items ≡ tables_of S z.heads.items z.digits.items z.exponents.items = ap (λ (x : List ScopeOf). store_tables x z) (sym c.deref-scopes.ensures) in
-    let made = last ∙ both_steps now (tables_of S o.heads.items o.digits.items o.exponents.items) T (tables_of S z.heads.items z.digits.items z.exponents.items) k c.requires.table view nd ne ((head_in c.times.new.self.heads.items k).shift + (head_in c.times.new.self.heads.items m).shift) touched c.times.ensures.tables c.take_ratios.ensures.tables in
-    let full = table_is_full S w.heads.items w.digits.items w.exponents.items _ _ _ c.times.ensures.store k within in
-    let later : (table_in T k).shift ≡ (table_in now k).shift = ap (λ (ts : List TableOf). (table_in ts k).shift) (after_is now (tables_of S o.heads.items o.digits.items o.exponents.items) T k c.requires.table view nd ne c.times.ensures.tables) ∙ at_shift now k c.requires.table nd ne in
-    let later_too : (table_in T k).touched ≡ (table_in now k).touched = ap (λ (ts : List TableOf). (table_in ts k).touched) (after_is now (tables_of S o.heads.items o.digits.items o.exponents.items) T k c.requires.table view nd ne c.times.ensures.tables) ∙ at_touched now k c.requires.table nd ne in
-    let shift_is : (head_in w.heads.items k).shift ≡ (table_in now k).shift = sym (table_shift S w.heads.items w.digits.items w.exponents.items _ _ _ c.times.ensures.store k within) ∙ later in
-    let touched_is : (head_in w.heads.items k).touched ≡ (table_in now k).touched = sym (table_touched S w.heads.items w.digits.items w.exponents.items _ _ _ c.times.ensures.store k within) ∙ later_too in
-    let kept : table_in T m ≡ table_in now m = other_table now (tables_of S o.heads.items o.digits.items o.exponents.items) T k m (λ i. c.requires.apart (sym i)) _ view c.times.ensures.tables in
-    let shift_m : (head_in w.heads.items m).shift ≡ (table_in now m).shift = sym (table_shift S w.heads.items w.digits.items w.exponents.items _ _ _ c.times.ensures.store m within_m) ∙ ap (λ (u : TableOf). u.shift) kept in
-    let touched_m : (head_in w.heads.items m).touched ≡ (table_in now m).touched = sym (table_touched S w.heads.items w.digits.items w.exponents.items _ _ _ c.times.ensures.store m within_m) ∙ ap (λ (u : TableOf). u.touched) kept in
-    let parts = seen_parts S o.heads.items o.digits.items o.exponents.items _ _ _ c.open.ensures.store now view k within whole (table_in (tables_of S o.heads.items o.digits.items o.exponents.items) k).digits (table_in (tables_of S o.heads.items o.digits.items o.exponents.items) k).exponents whole_is refl refl in
-    let xs = c.take.new.self.digits.items in let ys = c.take.new.self.exponents.items in
-    let others = seen_parts S o.heads.items o.digits.items o.exponents.items _ _ _ c.open.ensures.store now view m within_m part (filled one_digits (cells_in part) xs) (filled one_exponent (cells_in part) ys) part_is (ap (λ (x : ScopeOf). filled one_digits (cells_in x) xs) part_is ∙ c.take.ensures.digits)
-    (ap (λ (x : ScopeOf). filled one_exponent (cells_in x) ys) part_is ∙ c.take.ensures.exponents) in
-    let lies : LiesIn (scope_in S m) (scope_in S k) = subst (λ (x : ScopeOf). LiesIn x (scope_in S k)) part_is (subst (λ (x : ScopeOf). LiesIn part x) whole_is c.times.ensures.lies_in) in
-    let lies_now : LiesIn (table_in now m).scope (table_in now k).scope = subst (λ (x : ScopeOf). LiesIn x (table_in now k).scope) scope_m (subst (λ (x : ScopeOf). LiesIn (scope_in S m) x) scope_is lies) in
-    let either : IsEither (table_in now k).touched (table_in now m).touched touched =
-    subst (λ (t : Option _). IsEither t (table_in now m).touched touched) touched_is (subst (λ (t : Option _). IsEither (head_in w.heads.items k).touched t touched) touched_m c.take_ratios.ensures.either) in
-    λ f h n p has other. made_numbers now _ k c.requires.table ((head_in c.times.new.self.heads.items k).shift + (head_in c.times.new.self.heads.items m).shift) nd ne touched made (λ i. f i * h (cell_in (table_in now m).scope (table_in now k).scope i)) (n + p + 1)
-    (subst (λ i. AreNumbers (touched_cells touched (table_in now k).scope) i nd ne (λ j. f j * h (cell_in (table_in now m).scope (table_in now k).scope j)) (n + p + 1)) (sym (ap (λ i. i + (head_in w.heads.items m).shift) shift_is ∙ ap (λ i. (table_in now k).shift + i) shift_m))
-    (message_numbers _ _ _ _ _ parts (table_in now m) _ _ _ _ others nd ne touched lies_now c.times.ensures.changed either f h n p has other))
+    let k = seen g (goal.at.returns-clause-numbers g c).After-open c.args.k c.requires.table in
+    let m = seen g (goal.at.returns-clause-numbers g c).After-open c.args.message c.requires.message_table in
+    let p = placed g (goal.at.returns-clause-numbers g c).After-open in
+    let keep = heads g (goal.at.returns-clause-numbers g c).After-times in let made = becomes g (goal.at.returns-clause-numbers g c).After-take_ratios keep in
+    λ f h n q has other.
+    made.numbers (λ i. f i * h (cell_in (table_in c.args.self.now c.args.message).scope (table_in c.args.self.now c.args.k).scope i)) (n + q + 1)
+    (message_numbers _ _ _ _ _ (k.parts _ _ _ p.whole_is refl refl) (table_in c.args.self.now c.args.message) _ _ _ _
+    (parts g (goal.at.returns-clause-numbers g c).After-take m p.part_is) _ _ _
+    (p.lies_now c.times.ensures.lies_in) c.times.ensures.changed (either g (goal.at.returns-clause-numbers g c).After-take_ratios keep) f h n q has other)
 
 pub returns-clause-touched : goal.returns-clause-touched
 returns-clause-touched g c =
-    let S = c.deref-scopes.result.now in let now = c.args.self.now in let k = c.args.k in let o = c.open.new.self in
-    let view : tables_of S o.heads.items o.digits.items o.exponents.items ≡ now = c.open.ensures.tables ∙ ap (λ (x : List ScopeOf). store_tables x c.self.inside.store) c.deref-scopes.ensures ∙ c.self.view_is in
-    let within = seen_within S o.heads.items o.digits.items o.exponents.items now view k c.requires.table in
-    let scope_is = seen_scope S o.heads.items o.digits.items o.exponents.items _ _ _ c.open.ensures.store now view k within in
-    let m = c.args.message in let part = c.args.places.now.part in let whole = c.args.places.now.whole in
-    let within_m = seen_within S o.heads.items o.digits.items o.exponents.items now view m c.requires.message_table in
-    let scope_m = seen_scope S o.heads.items o.digits.items o.exponents.items _ _ _ c.open.ensures.store now view m within_m in
-    let whole_is : whole ≡ scope_in S k = ap (λ (x : PlacesOf). x.whole) c.requires.places ∙ sym scope_is in
-    let part_is : part ≡ scope_in S m = ap (λ (x : PlacesOf). x.part) c.requires.places ∙ sym scope_m in
-    let w = c.times.new.self in let T = tables_of S w.heads.items w.digits.items w.exponents.items in let nd : List ℕ = (table_in T k).digits in let ne : List ℕ = (table_in T k).exponents in
-    let z = c.take_ratios.new.self in let touched = (head_in z.heads.items k).touched in
-    let last : tables_of c.self.inside.scopes.value z.heads.items z.digits.items z.exponents.items ≡ tables_of S z.heads.items z.digits.items z.exponents.items = ap (λ (x : List ScopeOf). store_tables x z) (sym c.deref-scopes.ensures) in
-    let made = last ∙ both_steps now (tables_of S o.heads.items o.digits.items o.exponents.items) T (tables_of S z.heads.items z.digits.items z.exponents.items) k c.requires.table view nd ne ((head_in c.times.new.self.heads.items k).shift + (head_in c.times.new.self.heads.items m).shift) touched c.times.ensures.tables c.take_ratios.ensures.tables in
-    let full = table_is_full S w.heads.items w.digits.items w.exponents.items _ _ _ c.times.ensures.store k within in
-    let later : (table_in T k).shift ≡ (table_in now k).shift = ap (λ (ts : List TableOf). (table_in ts k).shift) (after_is now (tables_of S o.heads.items o.digits.items o.exponents.items) T k c.requires.table view nd ne c.times.ensures.tables) ∙ at_shift now k c.requires.table nd ne in
-    let later_too : (table_in T k).touched ≡ (table_in now k).touched = ap (λ (ts : List TableOf). (table_in ts k).touched) (after_is now (tables_of S o.heads.items o.digits.items o.exponents.items) T k c.requires.table view nd ne c.times.ensures.tables) ∙ at_touched now k c.requires.table nd ne in
-    let shift_is : (head_in w.heads.items k).shift ≡ (table_in now k).shift = sym (table_shift S w.heads.items w.digits.items w.exponents.items _ _ _ c.times.ensures.store k within) ∙ later in
-    let touched_is : (head_in w.heads.items k).touched ≡ (table_in now k).touched = sym (table_touched S w.heads.items w.digits.items w.exponents.items _ _ _ c.times.ensures.store k within) ∙ later_too in
-    let kept : table_in T m ≡ table_in now m = other_table now (tables_of S o.heads.items o.digits.items o.exponents.items) T k m (λ i. c.requires.apart (sym i)) _ view c.times.ensures.tables in
-    let shift_m : (head_in w.heads.items m).shift ≡ (table_in now m).shift = sym (table_shift S w.heads.items w.digits.items w.exponents.items _ _ _ c.times.ensures.store m within_m) ∙ ap (λ (u : TableOf). u.shift) kept in
-    let touched_m : (head_in w.heads.items m).touched ≡ (table_in now m).touched = sym (table_touched S w.heads.items w.digits.items w.exponents.items _ _ _ c.times.ensures.store m within_m) ∙ ap (λ (u : TableOf). u.touched) kept in
-    let either : IsEither (table_in now k).touched (table_in now m).touched touched =
-    subst (λ (t : Option _). IsEither t (table_in now m).touched touched) touched_is (subst (λ (t : Option _). IsEither (head_in w.heads.items k).touched t touched) touched_m c.take_ratios.ensures.either) in
-    subst (λ (t : Option _). KeepsPairs (table_in now k).scope (table_in now k).touched (table_in now m).touched t) (sym (made_touched now _ k c.requires.table ((head_in c.times.new.self.heads.items k).shift + (head_in c.times.new.self.heads.items m).shift) nd ne touched made)) (either.kept (table_in now k).scope)
+    let keep = heads g (goal.at.returns-clause-touched g c).After-times in let made = becomes g (goal.at.returns-clause-touched g c).After-take_ratios keep in
+    subst (λ (t : Option _). KeepsPairs (table_in c.args.self.now c.args.k).scope (table_in c.args.self.now c.args.k).touched
+    (table_in c.args.self.now c.args.message).touched t) (sym made.touched_is)
+    ((either g (goal.at.returns-clause-touched g c).After-take_ratios keep).kept (table_in c.args.self.now c.args.k).scope)

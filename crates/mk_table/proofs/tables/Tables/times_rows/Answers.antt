@@ -1,72 +1,54 @@
-use Rattle.std.proofs.Common.{◌≡◌, ◌+◌, ◌*◌, All, List, arith, ap, sym, subst, ◌∙◌, refl}
+use Rattle.std.proofs.Common.{ℕ, ◌+◌, ◌*◌, ◌<◌, All, length, arith, sym, subst, refl}
 use Rattle.mk_net.specs.Named.{variable_at}
 use Rattle.mk_sums.specs.There.{share_there}
-use Rattle.mk_scope.specs.Scopes.{ScopeOf, HasSized, cells_in}
+use Rattle.mk_scope.specs.Scopes.{ScopeOf, HasSized}
 use Rattle.mk_scope.specs.Cells.{values_at}
 use Rattle.mk_table.specs.Lists.{table_in}
-use Rattle.mk_table.specs.inner.Store.{scope_in, tables_of, store_tables}
+use Rattle.mk_table.specs.inner.Store.{store_tables}
 use Rattle.mk_table.proofs.Whole.{parts_room, rows_numbers}
-use Rattle.mk_table.proofs.Stored.{table_is_full}
-use Rattle.mk_table.proofs.Ranges.{after_is}
-use Rattle.mk_table.proofs.Made.{seen_within, seen_scope, seen_parts, made_full, made_numbers}
+use Rattle.mk_table.proofs.Seen.{IsSeen, is_seen, opened, HasBecome, cells_become, cells_long}
+use Rattle.mk_table.proofs.tables.Tables.times_rows.Given.{Over}
 use Rattle.mk_table.proofs.tables.Tables.times_rows.Goals as goal
+use Rattle.mk_table.proofs.tables.Tables.times_rows.Goals.{After-open, After-times_rows}
+
+seen : (g : Over) (c : After-open g) (k : ℕ) → k < length c.args.self.now → IsSeen c.deref-scopes.result.now c.open.new.self c.args.self.now k
+seen g c = is_seen _ c.open.new.self _ c.open.ensures.store (opened _ _ c.deref-scopes.ensures c.self.inside.store c.open.new.self _ c.open.ensures.tables
+    c.self.view_is)
+
+becomes : (g : Over) (c : After-times_rows g) →
+    let after = table_in (store_tables c.deref-scopes.result.now c.times_rows.new.self) c.args.k in let table = table_in c.args.self.now c.args.k in
+    HasBecome c.args.self.now (store_tables c.self.inside.scopes.value c.times_rows.new.self) c.args.k table.shift after.digits after.exponents table.touched
+becomes g c = cells_become _ _ c.deref-scopes.ensures _ c.open.new.self c.times_rows.new.self
+    (opened _ _ c.deref-scopes.ensures c.self.inside.store c.open.new.self _ c.open.ensures.tables c.self.view_is) _ c.requires.table _ _
+    c.times_rows.ensures.tables
 
 pub times_rows-requires-clause-table : goal.times_rows-requires-clause-table
-times_rows-requires-clause-table g c =
-    let S = c.deref-scopes.result.now in let now = c.args.self.now in let k = c.args.k in let o = c.open.new.self in
-    let view : tables_of S o.heads.items o.digits.items o.exponents.items ≡ now = c.open.ensures.tables ∙ ap (λ (x : List ScopeOf). store_tables x c.self.inside.store) c.deref-scopes.ensures ∙ c.self.view_is in
-    let within = seen_within S o.heads.items o.digits.items o.exponents.items now view k c.requires.table in
-    let scope_is = seen_scope S o.heads.items o.digits.items o.exponents.items _ _ _ c.open.ensures.store now view k within in
-    within
+times_rows-requires-clause-table g c = (seen g (goal.at.times_rows-requires-clause-table g c).After-open _ c.requires.table).within
 
 pub times_rows-requires-clause-family : goal.times_rows-requires-clause-family
 times_rows-requires-clause-family g c =
-    let S = c.deref-scopes.result.now in let now = c.args.self.now in let k = c.args.k in let o = c.open.new.self in
-    let view : tables_of S o.heads.items o.digits.items o.exponents.items ≡ now = c.open.ensures.tables ∙ ap (λ (x : List ScopeOf). store_tables x c.self.inside.store) c.deref-scopes.ensures ∙ c.self.view_is in
-    let within = seen_within S o.heads.items o.digits.items o.exponents.items now view k c.requires.table in
-    let scope_is = seen_scope S o.heads.items o.digits.items o.exponents.items _ _ _ c.open.ensures.store now view k within in
-    subst (λ (x : ScopeOf). HasSized c.args.net.now x c.args.variable) (sym scope_is) c.requires.family
+    let k = seen g (goal.at.times_rows-requires-clause-family g c).After-open _ c.requires.table in
+    subst (λ (x : ScopeOf). HasSized c.args.net.now x c.args.variable) (sym k.scope) c.requires.family
 
 pub times_rows-requires-clause-parents : goal.times_rows-requires-clause-parents
 times_rows-requires-clause-parents g c =
-    let S = c.deref-scopes.result.now in let now = c.args.self.now in let k = c.args.k in let o = c.open.new.self in
-    let view : tables_of S o.heads.items o.digits.items o.exponents.items ≡ now = c.open.ensures.tables ∙ ap (λ (x : List ScopeOf). store_tables x c.self.inside.store) c.deref-scopes.ensures ∙ c.self.view_is in
-    let within = seen_within S o.heads.items o.digits.items o.exponents.items now view k c.requires.table in
-    let scope_is = seen_scope S o.heads.items o.digits.items o.exponents.items _ _ _ c.open.ensures.store now view k within in
-    subst (λ (x : ScopeOf). All (HasSized c.args.net.now x) (variable_at c.args.net.now c.args.variable).parents) (sym scope_is) c.requires.parents
+    let k = seen g (goal.at.times_rows-requires-clause-parents g c).After-open _ c.requires.table in
+    subst (λ (x : ScopeOf). All (HasSized c.args.net.now x) (variable_at c.args.net.now c.args.variable).parents) (sym k.scope) c.requires.parents
 
 pub times_rows-requires-clause-room : goal.times_rows-requires-clause-room
 times_rows-requires-clause-room g c =
-    let S = c.deref-scopes.result.now in let now = c.args.self.now in let k = c.args.k in let o = c.open.new.self in
-    let view : tables_of S o.heads.items o.digits.items o.exponents.items ≡ now = c.open.ensures.tables ∙ ap (λ (x : List ScopeOf). store_tables x c.self.inside.store) c.deref-scopes.ensures ∙ c.self.view_is in
-    let within = seen_within S o.heads.items o.digits.items o.exponents.items now view k c.requires.table in
-    let scope_is = seen_scope S o.heads.items o.digits.items o.exponents.items _ _ _ c.open.ensures.store now view k within in
-    let parts = seen_parts S o.heads.items o.digits.items o.exponents.items _ _ _ c.open.ensures.store now view k within (scope_in S k) (table_in (tables_of S o.heads.items o.digits.items o.exponents.items) k).digits (table_in (tables_of S o.heads.items o.digits.items o.exponents.items) k).exponents refl refl refl in
-    parts_room _ _ _ _ _ parts 1 1 c.requires.room (omega arith)
+    let k = seen g (goal.at.times_rows-requires-clause-room g c).After-open _ c.requires.table in
+    parts_room _ _ _ _ _ (k.parts _ _ _ refl refl refl) 1 1 c.requires.room (omega arith)
 
 pub returns-clause-full : goal.returns-clause-full
 returns-clause-full g c =
-    let S = c.deref-scopes.result.now in let now = c.args.self.now in let k = c.args.k in let o = c.open.new.self in
-    let view : tables_of S o.heads.items o.digits.items o.exponents.items ≡ now = c.open.ensures.tables ∙ ap (λ (x : List ScopeOf). store_tables x c.self.inside.store) c.deref-scopes.ensures ∙ c.self.view_is in
-    let within = seen_within S o.heads.items o.digits.items o.exponents.items now view k c.requires.table in
-    let scope_is = seen_scope S o.heads.items o.digits.items o.exponents.items _ _ _ c.open.ensures.store now view k within in
-    let w = c.times_rows.new.self in let T = tables_of S w.heads.items w.digits.items w.exponents.items in let nd = (table_in T k).digits in let ne = (table_in T k).exponents in
-    let last : tables_of c.self.inside.scopes.value w.heads.items w.digits.items w.exponents.items ≡ T = ap (λ (x : List ScopeOf). store_tables x w) (sym c.deref-scopes.ensures) in
-    let made = last ∙ after_is now (tables_of S o.heads.items o.digits.items o.exponents.items) T k c.requires.table view nd ne c.times_rows.ensures.tables in
-    let full = table_is_full S w.heads.items w.digits.items w.exponents.items _ _ _ c.times_rows.ensures.store k within in
-    let parts = seen_parts S o.heads.items o.digits.items o.exponents.items _ _ _ c.open.ensures.store now view k within (scope_in S k) (table_in (tables_of S o.heads.items o.digits.items o.exponents.items) k).digits (table_in (tables_of S o.heads.items o.digits.items o.exponents.items) k).exponents refl refl refl in
-    made_full now _ k c.requires.table (table_in now k).shift nd ne (table_in now k).touched made (full.as_many_digits ∙ ap cells_in scope_is)
+    let k = seen g (goal.at.returns-clause-full g c).After-open _ c.requires.table in
+    (becomes g (goal.at.returns-clause-full g c).After-times_rows).full (cells_long _ c.times_rows.new.self c.times_rows.ensures.store _ k.within _ k.scope)
 
 pub returns-clause-numbers : goal.returns-clause-numbers
-returns-clause-numbers g c =
-    let S = c.deref-scopes.result.now in let now = c.args.self.now in let k = c.args.k in let o = c.open.new.self in
-    let view : tables_of S o.heads.items o.digits.items o.exponents.items ≡ now = c.open.ensures.tables ∙ ap (λ (x : List ScopeOf). store_tables x c.self.inside.store) c.deref-scopes.ensures ∙ c.self.view_is in
-    let within = seen_within S o.heads.items o.digits.items o.exponents.items now view k c.requires.table in
-    let scope_is = seen_scope S o.heads.items o.digits.items o.exponents.items _ _ _ c.open.ensures.store now view k within in
-    let w = c.times_rows.new.self in let T = tables_of S w.heads.items w.digits.items w.exponents.items in let nd = (table_in T k).digits in let ne = (table_in T k).exponents in
-    let last : tables_of c.self.inside.scopes.value w.heads.items w.digits.items w.exponents.items ≡ T = ap (λ (x : List ScopeOf). store_tables x w) (sym c.deref-scopes.ensures) in
-    let made = last ∙ after_is now (tables_of S o.heads.items o.digits.items o.exponents.items) T k c.requires.table view nd ne c.times_rows.ensures.tables in
-    let full = table_is_full S w.heads.items w.digits.items w.exponents.items _ _ _ c.times_rows.ensures.store k within in
-    let parts = seen_parts S o.heads.items o.digits.items o.exponents.items _ _ _ c.open.ensures.store now view k within (scope_in S k) (table_in (tables_of S o.heads.items o.digits.items o.exponents.items) k).digits (table_in (tables_of S o.heads.items o.digits.items o.exponents.items) k).exponents refl refl refl in
-    λ f n has. made_numbers now _ k c.requires.table (table_in now k).shift nd ne (table_in now k).touched made (λ i. f i * share_there c.args.net.now c.args.variable (values_at (table_in now k).scope i)) (n + 1)
-    (rows_numbers _ _ _ _ _ parts (λ (x : ScopeOf) i. share_there c.args.net.now c.args.variable (values_at x i)) nd ne c.times_rows.ensures.changed f n has)
+returns-clause-numbers g c = λ f n has.
+    let k = seen g (goal.at.returns-clause-numbers g c).After-open _ c.requires.table in
+    (becomes g (goal.at.returns-clause-numbers g c).After-times_rows).numbers (λ i. f i * share_there c.args.net.now c.args.variable
+    (values_at (table_in c.args.self.now c.args.k).scope i)) (n + 1)
+    (rows_numbers _ _ _ _ _ (k.parts _ _ _ refl refl refl) (λ (x : ScopeOf) i. share_there c.args.net.now c.args.variable (values_at x i)) _ _
+    c.times_rows.ensures.changed f n has)
