@@ -31,18 +31,22 @@ use Rattle.mk_propagate.proofs.Sending.{core_is, core_put, cores_still, mark_is,
 use Rattle.mk_propagate.proofs.Placed as placed
 use Rattle.mk_propagate.proofs.Required as required
 
--- a flow over another board
-abbrev pub flow_on : FlowOf → BoardOf → List Bool → ℕ → FlowOf
-flow_on old board summed factors = record {
-  shape = old.shape;
+-- a flow over a board
+abbrev pub flow_over : ShapeOf → List Bool → ℕ → ℕ → BoardOf → FlowOf
+flow_over shape summed factors computed board = record {
+  shape = shape;
   tables = board.tables;
   cores = board.cores;
   summed = summed;
   upward = board.upward;
   downward = board.downward;
   factors = factors;
-  computed = old.computed;
+  computed = computed;
 }
+
+-- a flow over another board
+abbrev pub flow_on : FlowOf → BoardOf → List Bool → ℕ → FlowOf
+flow_on old board summed factors = flow_over old.shape summed factors old.computed board
 
 pub kept_messages : (old now after : FlowOf) → old ≡ now → after.shape ≡ old.shape → after.upward ≡ old.upward → after.downward ≡ old.downward → after.computed ≡ old.computed → KeepsMessages now after
 kept_messages old now after view s u d n =
@@ -52,6 +56,19 @@ kept_messages old now after view s u d n =
 pub put_there : (before after : BoardOf) (k : ℕ) → after ≡ put_table before k (table_of after k)
     → table_of after k ≡ slice_index_or (slice_set before.tables (k - 1) (table_of after k)) (k - 1) (table_of after k)
 put_there before after k only = read_there after.tables (k - 1) ∙ ap (λ (b : BoardOf). slice_index_or b.tables (k - 1) (table_of after k)) only
+
+-- what a table asks before a variable's rows, or their support, are placed in it, and before a ratio is
+pub record TakesRows (board : BoardOf) (clique : ℕ) (read : TableOf) (network : List Variable) (x : ℕ) : Type 0 where
+  pub there : HasClique board clique
+  pub family : HasSized network read.scope x
+  pub parents : All (HasSized network read.scope) (variable_at network x).parents
+  pub room : HasRoom read 1
+
+pub record TakesRatio (board : BoardOf) (clique : ℕ) (read : TableOf) (ratio : TradeRatio) : Type 0 where
+  pub there : HasClique board clique
+  pub event : HasEvent read.scope (ratio_pairs ratio)
+  pub one_each : HasOneEach read.scope ratio
+  pub room : HasRoom read 1
 
 module _ (plus : ℕ → ℕ → ℕ) (old now : FlowOf) (view : old ≡ now) (products : List TableOf) (cells : ℕ) (kept : IsKept old products cells)
     (p : Placing) (h : HasPlaced plus now p) (clique : ℕ) (is : IsClique now.shape.tree clique) (read : TableOf) (value : read ≡ get_or old.tables (clique - 1) read) where
@@ -76,27 +93,37 @@ module _ (plus : ℕ → ℕ → ℕ) (old now : FlowOf) (view : old ≡ now) (p
       ap (λ (u : TableOf). u.scope) (sym reads) ∙ (placed_old.tables clique clique_old).scope_is
       ∙ ap (λ (o : FlowOf). slice_index_or o.shape.cliques (clique - 1) no_scope) view ∙ shape.clique_scopes clique is
 
-  pub room : HasRoom read 1
+  room : HasRoom read 1
   room =
       placed.has_room read _ p clique (subst (λ (u : TableOf). HasCells u (clique_scope old.shape clique) (placed_there p clique) (factors_in p clique)
       (factors_in p clique) (ratios_in p clique) (IsCommon p)) reads (placed_old.tables clique clique_old)) h.placing.few
 
-  pub rows_family : (network : List Variable) → p.network ≡ network → (x : ℕ) → IsPlacedFactor network now.shape.tree (record { clique = clique; factor = RowsOf x }) → HasSized network read.scope x
-  rows_family network e x f = required.has_family network now.shape.tree clique read.scope (scope_of_read network (subst (IsShapeFor now.shape) e h.shape_is)) x f.fits.0 f.fits.1
+  pub takes_rows : (board : BoardOf) → board.tables ≡ old.tables → (network : List Variable) → p.network ≡ network → (x : ℕ)
+      → IsPlacedFactor network now.shape.tree (record { clique = clique; factor = RowsOf x })
+      → TakesRows board clique read network x
+  takes_rows board same network e x f =
+      let shape = subst (IsShapeFor now.shape) e h.shape_is in let scope = scope_of_read network shape in
+      record {
+        there = clique_there board same;
+        family = required.has_family network now.shape.tree clique read.scope scope x f.fits.0 f.fits.1;
+        parents = required.has_parents network now.shape.tree clique read.scope scope shape.legal x f.fits.0 f.fits.1;
+        room = room;
+      }
 
-  pub rows_parents : (network : List Variable) → p.network ≡ network → (x : ℕ) → IsPlacedFactor network now.shape.tree (record { clique = clique; factor = RowsOf x })
-      → All (HasSized network read.scope) (variable_at network x).parents
-  rows_parents network e x f =
-      let shape = subst (IsShapeFor now.shape) e h.shape_is in
-      required.has_parents network now.shape.tree clique read.scope (scope_of_read network shape) shape.legal x f.fits.0 f.fits.1
-
-  pub ratio_event : (ratio : TradeRatio) → IsPlacedFactor p.network now.shape.tree (record { clique = clique; factor = RatioOf ratio }) → HasEvent read.scope (ratio_pairs ratio)
-  ratio_event ratio f = required.has_ratio p.network now.shape.tree clique read.scope (scope_of_read p.network h.shape_is) h.shape_is.legal ratio f.fits.0 f.fits.1
-
-  pub ratio_one_each : (ratio : TradeRatio) → IsPlacedFactor p.network now.shape.tree (record { clique = clique; factor = RatioOf ratio }) → HasOneEach read.scope ratio
-  ratio_one_each ratio f =
-      required.has_one_each p.network now.shape.tree clique read.scope (scope_of_read p.network h.shape_is) ratio f.fits.0
-      (required.has_target p.network now.shape.tree clique read.scope (scope_of_read p.network h.shape_is) ratio (ratio_event ratio f))
+  pub takes_ratio : (board : BoardOf) → board.tables ≡ old.tables → (ratio : TradeRatio)
+      → IsPlacedFactor p.network now.shape.tree (record { clique = clique; factor = RatioOf ratio })
+      → TakesRatio board clique read ratio
+  takes_ratio board same ratio f =
+      let scope = scope_of_read p.network h.shape_is in
+      let event = required.has_ratio p.network now.shape.tree clique read.scope scope h.shape_is.legal ratio f.fits.0 f.fits.1 in
+      record {
+        there = clique_there board same;
+        event = event;
+        one_each =
+            required.has_one_each p.network now.shape.tree clique read.scope scope ratio f.fits.0
+            (required.has_target p.network now.shape.tree clique read.scope scope ratio event);
+        room = room;
+      }
 
   pub pair_variable : (q : Pair) → IsPlacedPair p.network now.shape.tree (record { clique = clique; pair = q }) → has_variable read.scope q.variable ≡ true
   pair_variable q f = required.has_pair p.network now.shape.tree clique read.scope (scope_of_read p.network h.shape_is) q f.in_range f.holds_it
@@ -136,30 +163,38 @@ module _ (plus : ℕ → ℕ → ℕ) (old now : FlowOf) (view : old ≡ now) (p
     unmarked : AreOthersKept old clique old.cores (slice_set old.summed (clique - 1) false)
     unmarked k at apart = (refl, get_or-set_other old.summed (clique - 1) (k - 1) false false (λ e. apart (let here = clique_old in omega (arith, e, at.first, here.first))))
 
-    pub flow_unmarked : (count : ℕ) (gathered : List Gathered) → AreMarked Gathered old.shape.tree Nothing (IsGathered plus old) products gathered
+    flow_unmarked : (count : ℕ) (gathered : List Gathered) → AreMarked Gathered old.shape.tree Nothing (IsGathered plus old) products gathered
         → IsFlow plus (with_table old clique t old.cores (slice_set old.summed (clique - 1) false) count) products gathered cells
     flow_unmarked count gathered marked =
         flow_with old.cores (slice_set old.summed (clique - 1) false) unmarked count gathered marked kept.cores_are (length-set old.summed (clique - 1) false) (λ m. absurd (not_summed m))
 
-    pub places_unmarked : (f : Factor) → IsPlacedFactor p.network now.shape.tree (record { clique = clique; factor = f }) → now.factors < max_factors → t.shift ≤ read.shift + 40
+    places_unmarked : (f : Factor) → IsPlacedFactor p.network now.shape.tree (record { clique = clique; factor = f }) → now.factors < max_factors → t.shift ≤ read.shift + 40
         → ((g : ℕ → ℕ) (n : ℕ) → HasNumbers read g n → HasNumbers t (λ c. g c * factor_there p.network f (values_at read.scope c)) (n + 1))
         → (HasRatios read (ratios_in p clique) (IsCommon p) → HasRatios t (ratios_in (with_factor_in clique f p) clique) (IsCommon (with_factor_in clique f p)))
         → Places plus now (with_table old clique t old.cores (slice_set old.summed (clique - 1) false) (old.factors + 1)) clique p (with_factor_in clique f p)
     places_unmarked f fits few shift numbers ratios = places_factor old.cores (slice_set old.summed (clique - 1) false) unmarked f fits few shift numbers ratios (λ m. absurd (not_summed m))
 
     -- a factor that is no ratio leaves them as they were
-    pub no_ratio_more : (f : Factor) → is_ratio f ≡ false → t.shift ≡ read.shift → t.touched ≡ read.touched
+    no_ratio_more : (f : Factor) → is_ratio f ≡ false → t.shift ≡ read.shift → t.touched ≡ read.touched
         → HasRatios read (ratios_in p clique) (IsCommon p) → HasRatios t (ratios_in (with_factor_in clique f p) clique) (IsCommon (with_factor_in clique f p))
     no_ratio_more f none shift touched had =
         same_ratios read t scope (ratios_in p clique) (IsCommon p) had shift touched (ratios_in (with_factor_in clique f p) clique) (no_ratio_here p clique f none) (IsCommon (with_factor_in clique f p)) (common_before p clique f)
 
-    pub ratio_more : (ratio : TradeRatio) → t.shift ≡ read.shift + 40 → KeepsPairs read.scope read.touched (Some ratio.condition) t.touched
+    -- so it is placed, with the table's mark off
+    places_plain : (f : Factor) → is_ratio f ≡ false → IsPlacedFactor p.network now.shape.tree (record { clique = clique; factor = f })
+        → now.factors < max_factors
+        → t.shift ≡ read.shift → t.touched ≡ read.touched
+        → ((g : ℕ → ℕ) (n : ℕ) → HasNumbers read g n → HasNumbers t (λ c. g c * factor_there p.network f (values_at read.scope c)) (n + 1))
+        → Places plus now (with_table old clique t old.cores (slice_set old.summed (clique - 1) false) (old.factors + 1)) clique p (with_factor_in clique f p)
+    places_plain f none fits few shift touched numbers = places_unmarked f fits few (omega (arith, shift)) numbers (no_ratio_more f none shift touched)
+
+    ratio_more : (ratio : TradeRatio) → t.shift ≡ read.shift + 40 → KeepsPairs read.scope read.touched (Some ratio.condition) t.touched
         → HasRatios read (ratios_in p clique) (IsCommon p) → HasRatios t (ratios_in (with_factor_in clique (RatioOf ratio) p) clique) (IsCommon (with_factor_in clique (RatioOf ratio) p))
     ratio_more ratio shift touched had =
         one_ratio_more read t scope (ratios_in p clique) (IsCommon p) had shift ratio.condition touched (ratios_in (with_factor_in clique (RatioOf ratio) p) clique) (ratio_here p clique (RatioOf ratio) refl)
         (IsCommon (with_factor_in clique (RatioOf ratio) p)) (common_before p clique (RatioOf ratio)) (common_to_it p clique (RatioOf ratio))
 
-    pub places_pair : (q : Pair) → IsPlacedPair p.network now.shape.tree (record { clique = clique; pair = q }) → t.shift ≡ read.shift
+    places_pair : (q : Pair) → IsPlacedPair p.network now.shape.tree (record { clique = clique; pair = q }) → t.shift ≡ read.shift
         → ((g : ℕ → ℕ) (n : ℕ) → HasNumbers read g n → HasNumbers t (λ c. if values_at read.scope c q.variable == q.value then g c else 0) n)
         → KeepsPairs read.scope read.touched None t.touched → Places plus now (with_table old clique t old.cores (slice_set old.summed (clique - 1) false) old.factors) clique p (with_pair_in clique q p)
     places_pair q fits shift numbers touched =
@@ -167,22 +202,27 @@ module _ (plus : ℕ → ℕ → ℕ) (old now : FlowOf) (view : old ≡ now) (p
         (pair_placed plus old p clique read t old.cores (slice_set old.summed (clique - 1) false) placed_old clique_old within reads scope unmarked q
         (subst (λ (o : FlowOf). IsPlacedPair p.network o.shape.tree (record { clique = clique; pair = q })) (sym view) fits) shift numbers touched not_summed)
 
-    -- with a factor more the table has what is placed there, and room to be summed
-    module _ (law : Lawful plus) (f : Factor) (fits : IsPlacedFactor p.network now.shape.tree (record { clique = clique; factor = f })) (few : now.factors < max_factors) (shift : t.shift ≤ read.shift + 40)
-        (numbers : (g : ℕ → ℕ) (n : ℕ) → HasNumbers read g n → HasNumbers t (λ c. g c * factor_there p.network f (values_at read.scope c)) (n + 1))
-        (ratios : HasRatios read (ratios_in p clique) (IsCommon p) → HasRatios t (ratios_in (with_factor_in clique f p) clique) (IsCommon (with_factor_in clique f p))) where
-      pub placed_with : IsPlacedIn old.shape (with_factor_in clique f p) clique t
+    -- with a ratio more the table has what is placed there, and room to be summed
+    module _ (law : Lawful plus) (ratio : TradeRatio)
+        (fits : IsPlacedFactor p.network now.shape.tree (record { clique = clique; factor = RatioOf ratio })) (few : now.factors < max_factors)
+        (shift : t.shift ≡ read.shift + 40) (touched : KeepsPairs read.scope read.touched (Some ratio.condition) t.touched)
+        (numbers : (g : ℕ → ℕ) (n : ℕ) → HasNumbers read g n
+        → HasNumbers t (λ c. g c * factor_there p.network (RatioOf ratio) (values_at read.scope c)) (n + 1)) where
+      abbrev with_ratio : Placing
+      with_ratio = with_factor_in clique (RatioOf ratio) p
+
+      placed_with : IsPlacedIn old.shape with_ratio clique t
       placed_with =
-          let has = (places_unmarked f fits few shift numbers ratios).placed in
+          let has = (places_unmarked (RatioOf ratio) fits few (omega (arith, shift)) numbers (ratio_more ratio shift touched)).placed in
           record {
             shape_is = has.shape_is;
             placing = has.placing;
-            cells = subst (λ (u : TableOf). HasCells u (clique_scope old.shape clique) (placed_there (with_factor_in clique f p) clique) (factors_in (with_factor_in clique f p) clique)
-                (factors_in (with_factor_in clique f p) clique) (ratios_in (with_factor_in clique f p) clique) (IsCommon (with_factor_in clique f p))) table_there (has.tables clique clique_old);
+            cells = subst (λ (u : TableOf). HasCells u (clique_scope old.shape clique) (placed_there with_ratio clique)
+                (factors_in with_ratio clique) (factors_in with_ratio clique) (ratios_in with_ratio clique) (IsCommon with_ratio)) table_there (has.tables clique clique_old);
           }
 
       pub room_with : HasRoom t (2 * cells_in t.scope)
-      room_with = table_room old.shape (with_factor_in clique f p) placed_with.shape_is placed_with.placing plus law clique clique_old t placed_with.cells
+      room_with = table_room old.shape with_ratio placed_with.shape_is placed_with.placing plus law clique clique_old t placed_with.cells
 
     -- the sums over its core follow it
     module _ (was core : TableOf) (e : was ≡ slice_index_or old.cores (clique - 1) was) (same : core.scope ≡ was.scope) (mark_was mark : Bool) (m : mark_was ≡ slice_index_or old.summed (clique - 1) mark_was)
@@ -211,13 +251,16 @@ module _ (plus : ℕ → ℕ → ℕ) (old now : FlowOf) (view : old ≡ now) (p
       pub core_had_room : Lawful plus → mark_was ≡ true → HasRoom was 1
       core_had_room law marked = core_room_one old.shape p placed_old.shape_is placed_old.placing plus law clique clique_old was (had_sums marked)
 
-      module _ (law : Lawful plus) (ratio : TradeRatio) (fits : IsPlacedFactor p.network now.shape.tree (record { clique = clique; factor = RatioOf ratio })) (few : now.factors < max_factors) (shift : t.shift ≤ read.shift + 40)
-          (numbers : (g : ℕ → ℕ) (n : ℕ) → HasNumbers read g n → HasNumbers t (λ c. g c * factor_there p.network (RatioOf ratio) (values_at read.scope c)) (n + 1))
-          (ratios : HasRatios read (ratios_in p clique) (IsCommon p) → HasRatios t (ratios_in (with_factor_in clique (RatioOf ratio) p) clique) (IsCommon (with_factor_in clique (RatioOf ratio) p))) where
+      module _ (law : Lawful plus) (ratio : TradeRatio)
+          (fits : IsPlacedFactor p.network now.shape.tree (record { clique = clique; factor = RatioOf ratio })) (few : now.factors < max_factors)
+          (shift : t.shift ≡ read.shift + 40) (touched : KeepsPairs read.scope read.touched (Some ratio.condition) t.touched)
+          (numbers : (g : ℕ → ℕ) (n : ℕ) → HasNumbers read g n
+          → HasNumbers t (λ c. g c * factor_there p.network (RatioOf ratio) (values_at read.scope c)) (n + 1)) where
         pub places_followed : (shape : ShapeOf) → shape ≡ old.shape → (mark ≡ true → mark_was ≡ true) → (mark ≡ true → IsFollowed plus shape clique ratio table was core)
             → Places plus now (with_table old clique t (slice_set old.cores (clique - 1) core) (slice_set old.summed (clique - 1) mark) (old.factors + 1)) clique p (with_factor_in clique (RatioOf ratio) p)
         places_followed shape s were followed =
-            places_factor (slice_set old.cores (clique - 1) core) (slice_set old.summed (clique - 1) mark) others (RatioOf ratio) fits few shift numbers ratios (λ here. sums (sym mark_there ∙ here))
+            places_factor (slice_set old.cores (clique - 1) core) (slice_set old.summed (clique - 1) mark) others (RatioOf ratio) fits few
+            (omega (arith, shift)) numbers (ratio_more ratio shift touched) (λ here. sums (sym mark_there ∙ here))
           where
             fits_old : IsPlacedFactor p.network old.shape.tree (record { clique = clique; factor = RatioOf ratio })
             fits_old = subst (λ (o : FlowOf). IsPlacedFactor p.network o.shape.tree (record { clique = clique; factor = RatioOf ratio })) (sym view) fits
@@ -230,7 +273,52 @@ module _ (plus : ℕ → ℕ → ℕ) (old now : FlowOf) (view : old ≡ now) (p
             sums : mark ≡ true → HasSums plus old.shape (with_factor_in clique (RatioOf ratio) p) clique (slice_index_or (slice_set old.cores (clique - 1) core) (clique - 1) no_table)
             sums marked =
                 subst (λ (u : TableOf). HasSums plus old.shape (with_factor_in clique (RatioOf ratio) p) clique u) (sym core_there)
-                (follows marked p fits_old (placed_with law (RatioOf ratio) fits few shift numbers ratios) (had_sums (were marked)))
+                (follows marked p fits_old (placed_with law ratio fits few shift touched numbers) (had_sums (were marked)))
+
+-- a call that changes one table of a board, after which its core is not summed
+module _ (plus : ℕ → ℕ → ℕ) (shape : ShapeOf) (summed : List Bool) (factors computed cells : ℕ) (board after : BoardOf) (now : FlowOf)
+    (view : flow_over shape summed factors computed board ≡ now) (kept : IsKept (flow_over shape summed factors computed board) board.products cells)
+    (p : Placing) (h : HasPlaced plus now p) (k : ℕ) (is : IsClique now.shape.tree k)
+    (only : after ≡ put_table board k (table_of after k)) (scope : (table_of after k).scope ≡ (table_of board k).scope) where
+  abbrev before : FlowOf
+  before = flow_over shape summed factors computed board
+
+  abbrev called : ℕ → BoardOf → FlowOf
+  called count x = flow_over shape (slice_set summed (k - 1) false) count computed x
+
+  pub flow_called : (count : ℕ) (gathered : List Gathered) → AreMarked Gathered shape.tree Nothing (IsGathered plus before) board.products gathered
+      → IsFlow plus (called count after) after.products gathered cells
+  flow_called count gathered marked =
+      subst (λ (x : BoardOf). IsFlow plus (called count x) x.products gathered cells) (sym only)
+      (flow_unmarked plus before now view board.products cells kept p h k is (table_of board k) (read_there board.tables (k - 1)) (table_of after k) scope
+      count gathered marked)
+
+  pub messages_called : (count : ℕ) → KeepsMessages now (called count after)
+  messages_called count =
+      kept_messages before now (called count after) view refl (ap (λ (x : BoardOf). x.upward) only)
+      (ap (λ (x : BoardOf). x.downward) only) refl
+
+  pub factor_called : (f : Factor) → is_ratio f ≡ false → IsPlacedFactor p.network now.shape.tree (record { clique = k; factor = f })
+      → now.factors < max_factors
+      → (table_of after k).shift ≡ (table_of board k).shift → (table_of after k).touched ≡ (table_of board k).touched
+      → ((g : ℕ → ℕ) (n : ℕ) → HasNumbers (table_of board k) g n
+      → HasNumbers (table_of after k) (λ c. g c * factor_there p.network f (values_at (table_of board k).scope c)) (n + 1))
+      → Places plus now (called (factors + 1) after) k p (with_factor_in k f p)
+  factor_called f none fits few shift touched numbers =
+      subst (λ (x : BoardOf). Places plus now (called (factors + 1) x) k p (with_factor_in k f p)) (sym only)
+      (places_plain plus before now view board.products cells kept p h k is (table_of board k) (read_there board.tables (k - 1)) (table_of after k) scope
+      f none fits few shift touched numbers)
+
+  pub pair_called : (q : Pair) → IsPlacedPair p.network now.shape.tree (record { clique = k; pair = q })
+      → (table_of after k).shift ≡ (table_of board k).shift
+      → ((g : ℕ → ℕ) (n : ℕ) → HasNumbers (table_of board k) g n
+      → HasNumbers (table_of after k) (λ c. if values_at (table_of board k).scope c q.variable == q.value then g c else 0) n)
+      → KeepsPairs (table_of board k).scope (table_of board k).touched None (table_of after k).touched
+      → Places plus now (called factors after) k p (with_pair_in k q p)
+  pair_called q fits shift numbers touched =
+      subst (λ (x : BoardOf). Places plus now (called factors x) k p (with_pair_in k q p)) (sym only)
+      (places_pair plus before now view board.products cells kept p h k is (table_of board k) (read_there board.tables (k - 1)) (table_of after k) scope
+      q fits shift numbers touched)
 
 -- what fits one placing of a flow fits each
 module _ (plus : ℕ → ℕ → ℕ) (now : FlowOf) (p q : Placing) (h : HasPlaced plus now p) (other : HasPlaced plus now q) where

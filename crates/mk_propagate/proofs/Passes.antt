@@ -303,6 +303,27 @@ module _ (plus : ℕ → ℕ → ℕ) (start : FlowOf) (tied : given.AreLinked s
       way i j (inl o) = subst (λ (t : ℕ). IsRight plus now p i t) (sym o.2) (h.towards p has (b, b2) i o.0 o.1)
       way i j (inr o) = subst (λ (t : ℕ). IsRight plus now p t j) (sym o.2) (h.right p has (b, b2) j o.0 (either j o.0 (up_or_down start.shape.tree tied root at_root j o.0 o.1)))
 
+-- a pass over the cliques of a flow, of which there are `count`
+pub record IsPassOver (start : FlowOf) (root count : ℕ) : Type 0 where
+  pub tied : given.AreLinked start.shape.tree
+  pub many : count ≡ length start.shape.tree.cliques
+  pub at_root : IsClique start.shape.tree root
+
+pub pass_over : (start : FlowOf) (root count : ℕ) (shape : ShapeOf) → shape ≡ start.shape → given.AreLinked shape.tree
+    → count ≡ length shape.tree.cliques → IsClique start.shape.tree root → IsPassOver start root count
+pass_over start root count shape same tied many at_root = record {
+  tied = subst (λ (s : ShapeOf). given.AreLinked s.tree) same tied;
+  many = many ∙ ap (λ (s : ShapeOf). length s.tree.cliques) same;
+  at_root = at_root;
+}
+
+-- the clique that it comes to, backwards and onwards
+pub back_clique : (start : FlowOf) (root count : ℕ) → IsPassOver start root count → (passed : ℕ) → passed < count → IsClique start.shape.tree (count - passed)
+back_clique start root count pass passed more = record { first = omega (arith, more); last = omega (arith, more, pass.many) }
+
+pub on_clique : (start : FlowOf) (root count : ℕ) → IsPassOver start root count → (passed : ℕ) → passed < count → IsClique start.shape.tree (passed + 1)
+on_clique start root count pass passed more = record { first = omega (arith, more); last = omega (arith, more, pass.many) }
+
 -- a test and a next clique that were read of a shape that is equal to the one at the start
 module _ (start seen : ShapeOf) (same : seen ≡ start) (root k : ℕ) where
   pub up_seen : (test value : Bool) → test ≡ leads_up seen.tree root k → test ≡ value → leads_up start.tree root k ≡ value

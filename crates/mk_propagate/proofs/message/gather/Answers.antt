@@ -17,8 +17,9 @@ use Rattle.mk_propagate.proofs.Messages.{message_room}
 use Rattle.mk_propagate.specs.inner.Boards.{BoardOf, IsGatheringIn, product_of, message_of}
 use Rattle.mk_propagate.proofs.Boards.{product_same, product_again}
 use Rattle.mk_propagate.proofs.Prepared.{both_there, places_there, into_of, into_none}
+use Rattle.mk_propagate.proofs.message.gather.Given.{Over}
 use Rattle.mk_propagate.proofs.message.gather.Goals as goal
-use Rattle.mk_propagate.proofs.message.gather.Goals.{then-is_taken, else-is_taken}
+use Rattle.mk_propagate.proofs.message.gather.Goals.{After-is_taken, then-is_taken, else-is_taken}
 
 -- the place of a neighbour in the list
 record IsAt (shape : ShapeOf) (k j i : ℕ) : Type 0 where
@@ -60,66 +61,51 @@ right_there plus shape upward downward k j i receiver p taken message h at is to
     (h.right i (and_from (linked (link_of shape.tree) (length shape.tree.cliques) i k)
     (is_taken receiver i) (linked_there shape k j i at) (sym is ∙ took)))
 
+-- the neighbour that the loop is at
+here : (g : Over) (c : After-is_taken g) → IsAt c.args.shape.now c.args.clique
+    c.loop-neighbour.neighbour-index (slice_index_or c.neighbours-neighbour-items.result.now
+    c.loop-neighbour.neighbour-index 0)
+here g c =
+    at_place c.args.shape.now c.args.clique c.loop-neighbour.neighbour-index
+    c.neighbours-neighbour-items.result.now c.neighbours-neighbour-items.ensures
+    c.loop-neighbour-test.true
+
 pub places-places-requires : goal.places-places-requires
 places-places-requires g c =
     let shape = c.args.shape.now in let k = c.args.clique in
-    let at = at_place shape k c.loop-neighbour.neighbour-index
-    c.neighbours-neighbour-items.result.now c.neighbours-neighbour-items.ensures
-    c.loop-neighbour-test.true in
+    let at = here g (goal.at.places-places-requires g c).After-is_taken in
     linked_from (link_of shape.tree) (length shape.tree.cliques) k _
     (linked_back (link_of shape.tree) (length shape.tree.cliques) _ k
     (are_linked (link_of shape.tree) (length shape.tree.cliques) _ k (linked_there shape k _ _ at)))
 
-pub take-requires-clause-both : goal.take-requires-clause-both
-take-requires-clause-both g c =
-    let shape = c.args.shape.now in let k = c.args.clique in let can = c.requires.right.1 in
-    let at = at_place shape k c.loop-neighbour.neighbour-index
-    c.neighbours-neighbour-items.result.now c.neighbours-neighbour-items.ensures
-    c.loop-neighbour-test.true in
-    both_there shape c.loop-neighbour.board c.requires.right.0 can.shape_is can.placing
-    (ap (λ (b : BoardOf). length b.tables) c.loop-neighbour.invariant.only ∙ c.requires.over) _ k
-    (linked_there shape k _ _ at)
-
-pub take-requires-clause-places : goal.take-requires-clause-places
-take-requires-clause-places g c =
-    let plus = g.R.Semiring.plus_of in let shape = c.args.shape.now in let k = c.args.clique in
+pub take-requires : goal.take-requires
+take-requires g c =
+    let plus = g.R.Semiring.plus_of in let law = g.met.R.Semiring.lawful in
+    let shape = c.args.shape.now in let k = c.args.clique in
     let p = c.requires.right.0 in let can = c.requires.right.1 in
-    let j = c.loop-neighbour.neighbour-index in
-    let items = c.neighbours-neighbour-items.result.now in let i = slice_index_or items j 0 in
-    let before = c.args.board.now in let board = c.loop-neighbour.board in
-    let at = at_place shape k j items c.neighbours-neighbour-items.ensures
-    c.loop-neighbour-test.true in
+    let loop = c.loop-neighbour in let j = loop.neighbour-index in
+    let i = slice_index_or c.neighbours-neighbour-items.result.now j 0 in
+    let before = c.args.board.now in let board = loop.board in
+    let at = here g (goal.at.take-requires g c).After-is_taken in
     let right = right_there plus shape before.upward before.downward k j i c.args.receiver p
     c.is_taken.result (message_of board i k) can at c.is_taken.ensures c.if-is_taken.true
-    (ap (λ (b : BoardOf). message_of b i k) c.loop-neighbour.invariant.only) in
-    places_there plus shape k i p (product_of board k) (message_of board i k)
-    c.loop-neighbour.invariant.gathering.scope right c.places-places.result.now
-    c.places-places.ensures
-
-pub take-requires-clause-room : goal.take-requires-clause-room
-take-requires-clause-room g c = λ later.
-    let plus = g.R.Semiring.plus_of in let shape = c.args.shape.now in let k = c.args.clique in
-    let p = c.requires.right.0 in let can = c.requires.right.1 in
-    taken_room shape p can.shape_is can.placing plus g.met.R.Semiring.lawful k c.requires.clique
-    c.args.receiver
-    c.loop-neighbour.neighbour-index (product_of c.loop-neighbour.board k)
-    (c.loop-neighbour.invariant.gathering.has later p can)
-
-pub take-requires-clause-message_room : goal.take-requires-clause-message_room
-take-requires-clause-message_room g c =
-    let plus = g.R.Semiring.plus_of in let shape = c.args.shape.now in let k = c.args.clique in
-    let p = c.requires.right.0 in let can = c.requires.right.1 in
-    let j = c.loop-neighbour.neighbour-index in
-    let items = c.neighbours-neighbour-items.result.now in let i = slice_index_or items j 0 in
-    let before = c.args.board.now in let board = c.loop-neighbour.board in
-    let at = at_place shape k j items c.neighbours-neighbour-items.ensures
-    c.loop-neighbour-test.true in
-    let right = right_there plus shape before.upward before.downward k j i c.args.receiver p
-    c.is_taken.result (message_of board i k) can at c.is_taken.ensures c.if-is_taken.true
-    (ap (λ (b : BoardOf). message_of b i k) c.loop-neighbour.invariant.only) in
-    message_room shape p can.shape_is can.placing plus g.met.R.Semiring.lawful k c.requires.clique
-    c.args.receiver j i at.within at.is (message_of board i k)
-    (sym c.is_taken.ensures ∙ c.if-is_taken.true) right
+    (ap (λ (b : BoardOf). message_of b i k) loop.invariant.only) in
+    record {
+      both =
+          both_there shape board p can.shape_is can.placing
+          (ap (λ (b : BoardOf). length b.tables) loop.invariant.only ∙ c.requires.over) _ k
+          (linked_there shape k _ _ at);
+      places =
+          places_there plus shape k i p (product_of board k) (message_of board i k)
+          loop.invariant.gathering.scope right c.places-places.result.now c.places-places.ensures;
+      room = λ later.
+          taken_room shape p can.shape_is can.placing plus law k c.requires.clique c.args.receiver
+          j (product_of board k) (loop.invariant.gathering.has later p can);
+      message_room =
+          message_room shape p can.shape_is can.placing plus law k c.requires.clique
+          c.args.receiver j i at.within at.is (message_of board i k)
+          (sym c.is_taken.ensures ∙ c.if-is_taken.true) right;
+    }
 
 -- one neighbour more, whose message is taken, or is not
 module _ (plus : ℕ → ℕ → ℕ) (law : Lawful plus) (shape : ShapeOf) (upward downward : List TableOf)
@@ -172,9 +158,8 @@ loop-neighbour-preserved g c =
     let before = c.args.board.now in let board = c.loop-neighbour.board in
     let receiver = c.args.receiver in
     let j = c.loop-neighbour.neighbour-index in
-    let items = c.neighbours-neighbour-items.result.now in let i = slice_index_or items j 0 in
-    let at = at_place shape k j items c.neighbours-neighbour-items.ensures
-    c.loop-neighbour-test.true in
+    let i = slice_index_or c.neighbours-neighbour-items.result.now j 0 in
+    let at = here g (goal.at.loop-neighbour-preserved g c).After-is_taken in
     elim c.if-is_taken.branch [
       | then-is_taken w ↦
           subst (λ (b : Bool). IsGatheringIn plus shape before c.if-is_taken.board k receiver
@@ -208,52 +193,46 @@ loop-neighbour-preserved g c =
     ]
 
 -- after the last neighbour, where no message was taken
-pub returns-then-first-clause-only : goal.returns-then-first-clause-only
-returns-then-first-clause-only g c =
-    let k = c.args.clique in product_again c.args.board.now c.loop-neighbour.board
-    c.clear_product.new.self k (product_of c.loop-neighbour.board k) c.loop-neighbour.invariant.only
-    c.clear_product.ensures.only
-
-pub returns-then-first-clause-scope : goal.returns-then-first-clause-scope
-returns-then-first-clause-scope g c =
-    c.clear_product.ensures.cleared.scope ∙ c.loop-neighbour.invariant.gathering.scope
-    ∙ sym c.requires.scope
-
-pub returns-then-first-clause-into : goal.returns-then-first-clause-into
-returns-then-first-clause-into g c =
+pub returns-then-first : goal.returns-then-first
+returns-then-first g c =
     let plus = g.R.Semiring.plus_of in let shape = c.args.shape.now in let k = c.args.clique in
-    let j = c.loop-neighbour.neighbour-index in
-    let up = c.args.board.now.upward in let down = c.args.board.now.downward in
-    let product = product_of c.loop-neighbour.board k in
-    let cleared = c.clear_product.ensures.cleared in
-    let long : j ≡ length (neighbours shape.tree k) =
+    let before = c.args.board.now in let loop = c.loop-neighbour in
+    let product = product_of loop.board k in let cleared = c.clear_product.ensures.cleared in
+    let long : loop.neighbour-index ≡ length (neighbours shape.tree k) =
     let e = ap (λ (xs : List ℕ). length xs) c.neighbours-neighbour-items.ensures in omega
-    (arith, e, c.loop-neighbour-test.false, c.loop-neighbour.auto.neighbour-index-end) in
-    into_none plus g.met.R.Semiring.lawful shape k c.requires.clique up down c.args.receiver product
-    (product_of c.clear_product.new.self k)
-    (subst (λ n. IsGathering plus shape up down k c.args.receiver n true product) long
-    (subst (λ (b : Bool). IsGathering plus shape up down k c.args.receiver j b product)
-    c.if-first.true c.loop-neighbour.invariant.gathering))
-    cleared.scope cleared.shift cleared.ones cleared.full cleared.touched
+    (arith, e, c.loop-neighbour-test.false, loop.auto.neighbour-index-end) in
+    let P = IsGathering plus shape before.upward before.downward k c.args.receiver in
+    record {
+      only =
+          product_again before loop.board c.clear_product.new.self k product loop.invariant.only
+          c.clear_product.ensures.only;
+      scope = cleared.scope ∙ loop.invariant.gathering.scope ∙ sym c.requires.scope;
+      into =
+          into_none plus g.met.R.Semiring.lawful shape k c.requires.clique before.upward
+          before.downward c.args.receiver product (product_of c.clear_product.new.self k)
+          (subst (λ n. P n true product) long
+          (subst (λ (b : Bool). P loop.neighbour-index b product) c.if-first.true
+          loop.invariant.gathering))
+          cleared.scope cleared.shift cleared.ones cleared.full cleared.touched;
+    }
 
 -- and where one was
-pub returns-else-first-clause-only : goal.returns-else-first-clause-only
-returns-else-first-clause-only g c = c.loop-neighbour.invariant.only
-
-pub returns-else-first-clause-scope : goal.returns-else-first-clause-scope
-returns-else-first-clause-scope g c =
-    c.loop-neighbour.invariant.gathering.scope ∙ sym c.requires.scope
-
-pub returns-else-first-clause-into : goal.returns-else-first-clause-into
-returns-else-first-clause-into g c =
+pub returns-else-first : goal.returns-else-first
+returns-else-first g c =
     let plus = g.R.Semiring.plus_of in let shape = c.args.shape.now in let k = c.args.clique in
-    let j = c.loop-neighbour.neighbour-index in
-    let up = c.args.board.now.upward in let down = c.args.board.now.downward in
-    let product = product_of c.loop-neighbour.board k in
-    let long : j ≡ length (neighbours shape.tree k) =
+    let before = c.args.board.now in let loop = c.loop-neighbour in
+    let product = product_of loop.board k in
+    let long : loop.neighbour-index ≡ length (neighbours shape.tree k) =
     let e = ap (λ (xs : List ℕ). length xs) c.neighbours-neighbour-items.ensures in omega
-    (arith, e, c.loop-neighbour-test.false, c.loop-neighbour.auto.neighbour-index-end) in
-    into_of plus g.met.R.Semiring.lawful shape k c.requires.clique up down c.args.receiver product
-    (subst (λ n. IsGathering plus shape up down k c.args.receiver n false product) long
-    (subst (λ (b : Bool). IsGathering plus shape up down k c.args.receiver j b product)
-    c.if-first.false c.loop-neighbour.invariant.gathering))
+    (arith, e, c.loop-neighbour-test.false, loop.auto.neighbour-index-end) in
+    let P = IsGathering plus shape before.upward before.downward k c.args.receiver in
+    record {
+      only = loop.invariant.only;
+      scope = loop.invariant.gathering.scope ∙ sym c.requires.scope;
+      into =
+          into_of plus g.met.R.Semiring.lawful shape k c.requires.clique before.upward
+          before.downward c.args.receiver product
+          (subst (λ n. P n false product) long
+          (subst (λ (b : Bool). P loop.neighbour-index b product) c.if-first.false
+          loop.invariant.gathering));
+    }

@@ -13,39 +13,30 @@ places-requires g c =
     (linked_back (link_of tree) (length tree.cliques) i k
     (are_linked (link_of tree) (length tree.cliques) i k c.requires.linked))
 
-pub times_message-requires-clause-both : goal.times_message-requires-clause-both
-times_message-requires-clause-both g c =
-    let can = c.requires.right.1 in both_there c.args.shape.now c.args.board.now c.requires.right.0
-    can.shape_is can.placing c.requires.over c.args.missing c.args.clique c.requires.linked
-
-pub times_message-requires-clause-places : goal.times_message-requires-clause-places
-times_message-requires-clause-places g c =
+pub times_message-requires : goal.times_message-requires
+times_message-requires g c =
     let plus = g.R.Semiring.plus_of in let law = g.met.R.Semiring.lawful in
     let shape = c.args.shape.now in let k = c.args.clique in let i = c.args.missing in
-    let p = c.requires.right.0 in
+    let p = c.requires.right.0 in let can = c.requires.right.1 in
     let board = c.args.board.now in
-    places_there plus shape k i p (product_of board k) (message_of board i k)
-    (scope_before plus law shape k c.requires.clique board.upward board.downward i c.requires.linked
-    (product_of board k) (message_of board i k) c.requires.has refl p c.requires.right.1)
-    (left_out plus law shape k c.requires.clique board.upward board.downward i c.requires.linked
-    (product_of board k) (message_of board i k) c.requires.has refl p c.requires.right.1)
-    c.places.result.now c.places.ensures
-
-pub times_message-requires-clause-room : goal.times_message-requires-clause-room
-times_message-requires-clause-room g c =
-    let board = c.args.board.now in let k = c.args.clique in let i = c.args.missing in
-    room_for_it g.R.Semiring.plus_of g.met.R.Semiring.lawful c.args.shape.now k c.requires.clique
-    board.upward board.downward i c.requires.linked
-    (product_of board k) (message_of board i k) c.requires.has refl c.requires.right.0
-    c.requires.right.1
-
-pub times_message-requires-clause-message_room : goal.times_message-requires-clause-message_room
-times_message-requires-clause-message_room g c =
-    let board = c.args.board.now in let k = c.args.clique in let i = c.args.missing in
-    left_out_room g.R.Semiring.plus_of g.met.R.Semiring.lawful c.args.shape.now k c.requires.clique
-    board.upward board.downward i c.requires.linked
-    (product_of board k) (message_of board i k) c.requires.has refl c.requires.right.0
-    c.requires.right.1
+    let product = product_of board k in let message = message_of board i k in
+    record {
+      both =
+          both_there shape board p can.shape_is can.placing c.requires.over i k c.requires.linked;
+      places =
+          places_there plus shape k i p product message
+          (scope_before plus law shape k c.requires.clique board.upward board.downward i
+          c.requires.linked product message c.requires.has refl p can)
+          (left_out plus law shape k c.requires.clique board.upward board.downward i
+          c.requires.linked product message c.requires.has refl p can)
+          c.places.result.now c.places.ensures;
+      room =
+          room_for_it plus law shape k c.requires.clique board.upward board.downward i
+          c.requires.linked product message c.requires.has refl p can;
+      message_room =
+          left_out_room plus law shape k c.requires.clique board.upward board.downward i
+          c.requires.linked product message c.requires.has refl p can;
+    }
 
 pub returns-clause-into : goal.returns-clause-into
 returns-clause-into g c =

@@ -1,37 +1,43 @@
 use Rattle.std.proofs.Common.{ℕ, List, length, ap, arith}
-use Rattle.mk_propagate.specs.inner.Boards.{core_of, product_of, message_of}
+use Rattle.mk_propagate.specs.inner.Boards.{HasBoth, CanSum, core_of, product_of, message_of}
 use Rattle.mk_propagate.proofs.Prepared.{both_there}
 use Rattle.mk_propagate.proofs.Messages.{message_alone, message_of_both, core_room_there}
 use Rattle.mk_propagate.proofs.Messages.{product_room_there}
+use Rattle.mk_propagate.proofs.message.send.Given.{Over}
+use Rattle.mk_propagate.proofs.message.send.Goals.{After-neighbours}
 use Rattle.mk_propagate.proofs.message.send.Goals as goal
+
+-- both cliques are there, and the sender's core has room to be summed
+module _ (g : Over) (c : After-neighbours g) where
+  both : HasBoth c.args.board.now c.args.from c.args.to
+  both =
+      let out = c.requires.has.1 in
+      both_there c.args.shape.now c.args.board.now c.requires.has.0 out.shape_is out.placing
+      c.requires.over c.args.from c.args.to c.requires.linked
+
+  room : CanSum (core_of c.args.board.now c.args.from)
+  room =
+      let board = c.args.board.now in let a = c.args.from in let b = c.args.to in
+      let out = c.requires.has.1 in
+      core_room_there c.args.shape.now c.requires.has.0 out.shape_is out.placing
+      g.R.Semiring.plus_of g.met.R.Semiring.lawful a b c.requires.linked (core_of board a)
+      (product_of board a) out (message_of board a b) (message_of board a b) c.requires.scope
 
 pub send_core-requires-clause-both : goal.send_core-requires-clause-both
 send_core-requires-clause-both g c =
-    let out = c.requires.has.1 in both_there c.args.shape.now c.args.board.now c.requires.has.0
-    out.shape_is out.placing c.requires.over c.args.from c.args.to c.requires.linked
-
-pub send_product-requires-clause-both : goal.send_product-requires-clause-both
-send_product-requires-clause-both g c =
-    let out = c.requires.has.1 in both_there c.args.shape.now c.args.board.now c.requires.has.0
-    out.shape_is out.placing c.requires.over c.args.from c.args.to c.requires.linked
+    both g (goal.at.send_core-requires-clause-both g c).After-neighbours
 
 pub send_core-requires-clause-room : goal.send_core-requires-clause-room
 send_core-requires-clause-room g c =
-    let p = c.requires.has.0 in let out = c.requires.has.1 in
-    core_room_there c.args.shape.now p out.shape_is out.placing g.R.Semiring.plus_of
-    g.met.R.Semiring.lawful c.args.from c.args.to c.requires.linked
-    (core_of c.args.board.now c.args.from) (product_of c.args.board.now c.args.from) out
-    (message_of c.args.board.now c.args.from c.args.to)
-    (message_of c.args.board.now c.args.from c.args.to) c.requires.scope
+    room g (goal.at.send_core-requires-clause-room g c).After-neighbours
+
+pub send_product-requires-clause-both : goal.send_product-requires-clause-both
+send_product-requires-clause-both g c =
+    both g (goal.at.send_product-requires-clause-both g c).After-neighbours
 
 pub send_product-requires-clause-room : goal.send_product-requires-clause-room
 send_product-requires-clause-room g c =
-    let p = c.requires.has.0 in let out = c.requires.has.1 in
-    core_room_there c.args.shape.now p out.shape_is out.placing g.R.Semiring.plus_of
-    g.met.R.Semiring.lawful c.args.from c.args.to c.requires.linked
-    (core_of c.args.board.now c.args.from) (product_of c.args.board.now c.args.from) out
-    (message_of c.args.board.now c.args.from c.args.to)
-    (message_of c.args.board.now c.args.from c.args.to) c.requires.scope
+    room g (goal.at.send_product-requires-clause-room g c).After-neighbours
 
 pub send_product-requires-clause-product_room : goal.send_product-requires-clause-product_room
 send_product-requires-clause-product_room g c =

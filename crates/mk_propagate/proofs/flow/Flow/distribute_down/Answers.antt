@@ -1,80 +1,76 @@
-use Rattle.std.proofs.Common.{◌≡◌, ◌+◌, length, true, false, sym, ap, subst, ◌∙◌, arith}
-use Rattle.mk_tree.specs.Given.{AreLinked}
-use Rattle.mk_propagate.specs.Shapes.{ShapeOf, IsClique}
+use Rattle.std.proofs.Common.{◌≡◌, ◌+◌, Bool, true, false, sym, subst, ◌∙◌, arith}
 use Rattle.mk_propagate.specs.Flows.{FlowOf}
-use Rattle.mk_propagate.proofs.Passes.{DistributesOn, distribute_on_begins, distribute_on_skips, distribute_on_can, distribute_on_sent, distribute_on_right, up_seen, next_seen, clique_seen}
+use Rattle.mk_propagate.specs.inner.Passes.{leads_up}
+use Rattle.mk_propagate.proofs.Passes.{DistributesOn, distribute_on_begins, distribute_on_skips, distribute_on_can, distribute_on_sent, distribute_on_right}
+use Rattle.mk_propagate.proofs.Passes.{IsPassOver, pass_over, on_clique, up_seen, next_seen, clique_seen}
+use Rattle.mk_propagate.proofs.flow.Flow.distribute_down.Given.{Over}
+use Rattle.mk_propagate.proofs.flow.Flow.distribute_down.Goals.{After-cliques-count, After-leads_up, then-leads_up, else-leads_up}
 use Rattle.mk_propagate.proofs.flow.Flow.distribute_down.Goals as goal
-use Rattle.mk_propagate.proofs.flow.Flow.distribute_down.Goals.{then-leads_up, else-leads_up}
 
-pub leads_up-requires-clause-clique : goal.leads_up-requires-clause-clique
-leads_up-requires-clause-clique g c =
-    let plus = g.R.Semiring.plus_of in
-    let start = c.args.self.now in
-    let tied = subst (λ (s : ShapeOf). AreLinked s.tree) c.shape.ensures c.cliques-count.ensures.linked in
-    let many : c.cliques-count.result ≡ length start.shape.tree.cliques = c.cliques-count.ensures.count ∙ ap (λ (s : ShapeOf). length s.tree.cliques) c.shape.ensures in
-    let h = c.loop-passed.invariant in
-    let k = (c.loop-passed.passed + 1) in
-    let is : IsClique start.shape.tree k = record { first = omega (arith, c.loop-passed-test.true); last = omega (arith, c.loop-passed-test.true, many) } in
-    let same = c.shape-in-loop-passed.ensures ∙ h.kept.same_shape in
-    clique_seen start.shape c.shape-in-loop-passed.result.now same c.args.root k is
+pass : (g : Over) (c : After-cliques-count g) → IsPassOver c.args.self.now c.args.root c.cliques-count.result
+pass g c =
+    pass_over c.args.self.now c.args.root c.cliques-count.result _ c.shape.ensures
+    c.cliques-count.ensures.linked c.cliques-count.ensures.count c.requires.clique_is
 
-pub leads_up-requires-clause-root : goal.leads_up-requires-clause-root
-leads_up-requires-clause-root g c =
-    let h = c.loop-passed.invariant in
-    clique_seen c.args.self.now.shape c.shape-in-loop-passed.result.now (c.shape-in-loop-passed.ensures ∙ h.kept.same_shape) c.args.root c.args.root c.requires.clique_is
+-- what the test says of the clique
+leads : (g : Over) (c : After-leads_up g) (value : Bool) → c.leads_up.result ≡ value
+    → leads_up c.args.self.now.shape.tree c.args.root (c.loop-passed.passed + 1) ≡ value
+leads g c value e =
+    up_seen c.args.self.now.shape _ (c.shape-in-loop-passed.ensures ∙ c.loop-passed.invariant.kept.same_shape)
+    c.args.root (c.loop-passed.passed + 1) _ value c.leads_up.ensures.leads e
+
+pub leads_up-requires : goal.leads_up-requires
+leads_up-requires g c =
+    let start = c.args.self.now in let root = c.args.root in
+    let pass = pass g (goal.at.leads_up-requires g c).After-cliques-count in
+    let same = c.shape-in-loop-passed.ensures ∙ c.loop-passed.invariant.kept.same_shape in
+    record {
+      clique =
+          clique_seen start.shape _ same root _
+          (on_clique start root _ pass c.loop-passed.passed c.loop-passed-test.true);
+      root = clique_seen start.shape _ same root root pass.at_root;
+    }
 
 pub loop-passed-init : goal.loop-passed-init
 loop-passed-init g c =
-    let plus = g.R.Semiring.plus_of in
-    let start = c.args.self.now in
-    let tied = subst (λ (s : ShapeOf). AreLinked s.tree) c.shape.ensures c.cliques-count.ensures.linked in
-    let many : c.cliques-count.result ≡ length start.shape.tree.cliques = c.cliques-count.ensures.count ∙ ap (λ (s : ShapeOf). length s.tree.cliques) c.shape.ensures in
-    distribute_on_begins plus start tied c.args.root c.requires.clique_is (omega (arith, c.computed.ensures, c.computed.type_inv))
+    let pass = pass g (goal.at.loop-passed-init g c).After-cliques-count in
+    distribute_on_begins g.R.Semiring.plus_of c.args.self.now pass.tied c.args.root pass.at_root
+    (omega (arith, c.computed.ensures, c.computed.type_inv))
 
 pub message-requires : goal.message-requires
 message-requires g c =
-    let plus = g.R.Semiring.plus_of in
-    let start = c.args.self.now in
-    let tied = subst (λ (s : ShapeOf). AreLinked s.tree) c.shape.ensures c.cliques-count.ensures.linked in
-    let many : c.cliques-count.result ≡ length start.shape.tree.cliques = c.cliques-count.ensures.count ∙ ap (λ (s : ShapeOf). length s.tree.cliques) c.shape.ensures in
-    let h = c.loop-passed.invariant in
-    let k = (c.loop-passed.passed + 1) in
-    let is : IsClique start.shape.tree k = record { first = omega (arith, c.loop-passed-test.true); last = omega (arith, c.loop-passed-test.true, many) } in
-    let same = c.shape-in-loop-passed.ensures ∙ h.kept.same_shape in
-    let again = c.shape-then-leads_up.ensures ∙ h.kept.same_shape in
-    let leads = up_seen start.shape c.shape-in-loop-passed.result.now same c.args.root k c.leads_up.result true c.leads_up.ensures.leads c.if-leads_up.true in
-    distribute_on_can plus start tied c.args.root c.requires.clique_is c.loop-passed.self c.loop-passed.passed h is leads c.next-next.result
-    (next_seen start.shape c.shape-then-leads_up.result.now again c.args.root k c.next-next.result c.next-next.ensures.next) c.requires.placing c.requires.has (c.requires.towards, c.requires.right)
+    let at = goal.at.message-requires g c in let pass = pass g at.After-cliques-count in
+    let start = c.args.self.now in let root = c.args.root in let h = c.loop-passed.invariant in
+    distribute_on_can g.R.Semiring.plus_of start pass.tied root pass.at_root c.loop-passed.self c.loop-passed.passed h
+    (on_clique start root _ pass c.loop-passed.passed c.loop-passed-test.true)
+    (leads g at.After-leads_up true c.if-leads_up.true) c.next-next.result
+    (next_seen start.shape _ (c.shape-then-leads_up.ensures ∙ h.kept.same_shape) root (c.loop-passed.passed + 1) _
+    c.next-next.ensures.next) c.requires.placing c.requires.has (c.requires.towards, c.requires.right)
 
 pub loop-passed-preserved : goal.loop-passed-preserved
 loop-passed-preserved g c =
-    let plus = g.R.Semiring.plus_of in
-    let start = c.args.self.now in
-    let tied = subst (λ (s : ShapeOf). AreLinked s.tree) c.shape.ensures c.cliques-count.ensures.linked in
-    let many : c.cliques-count.result ≡ length start.shape.tree.cliques = c.cliques-count.ensures.count ∙ ap (λ (s : ShapeOf). length s.tree.cliques) c.shape.ensures in
-    let h = c.loop-passed.invariant in
-    let k = (c.loop-passed.passed + 1) in
-    let is : IsClique start.shape.tree k = record { first = omega (arith, c.loop-passed-test.true); last = omega (arith, c.loop-passed-test.true, many) } in
-    let same = c.shape-in-loop-passed.ensures ∙ h.kept.same_shape in
+    let at = goal.at.loop-passed-preserved g c in let pass = pass g at.After-cliques-count in
+    let plus = g.R.Semiring.plus_of in let start = c.args.self.now in let root = c.args.root in
+    let h = c.loop-passed.invariant in let mid = c.loop-passed.self in
+    let is = on_clique start root _ pass c.loop-passed.passed c.loop-passed-test.true in
     elim c.if-leads_up.branch [
       | then-leads_up w ↦
-          let again = w.shape-then-leads_up.ensures ∙ h.kept.same_shape in
-          let leads = up_seen start.shape c.shape-in-loop-passed.result.now same c.args.root k c.leads_up.result true c.leads_up.ensures.leads w.if-leads_up.true in
           let made = w.message.ensures in
-          subst (λ (o : FlowOf). DistributesOn plus start o c.args.root k) (sym w.self-is)
-          (distribute_on_sent plus start tied c.args.root c.requires.clique_is c.loop-passed.self c.loop-passed.passed h is leads w.next-next.result
-          (next_seen start.shape w.shape-then-leads_up.result.now again c.args.root k w.next-next.result w.next-next.ensures.next)
-          w.message.new.self (record { right = made.right; others = made.others; kept = made.kept; counted = made.counted }))
+          let again = w.shape-then-leads_up.ensures ∙ h.kept.same_shape in
+          subst (λ (o : FlowOf). DistributesOn plus start o root (c.loop-passed.passed + 1)) (sym w.self-is)
+          (distribute_on_sent plus start pass.tied root pass.at_root mid c.loop-passed.passed h is
+          (leads g at.After-leads_up true w.if-leads_up.true) _
+          (next_seen start.shape _ again root (c.loop-passed.passed + 1) _ w.next-next.ensures.next) w.message.new.self
+          (record { right = made.right; others = made.others; kept = made.kept; counted = made.counted }))
       | else-leads_up w ↦
-          let leads = up_seen start.shape c.shape-in-loop-passed.result.now same c.args.root k c.leads_up.result false c.leads_up.ensures.leads w.if-leads_up.false in
-          subst (λ (o : FlowOf). DistributesOn plus start o c.args.root k) (sym w.self-is)
-          (distribute_on_skips plus start tied c.args.root c.requires.clique_is c.loop-passed.self c.loop-passed.passed h is leads)
+          subst (λ (o : FlowOf). DistributesOn plus start o root (c.loop-passed.passed + 1)) (sym w.self-is)
+          (distribute_on_skips plus start pass.tied root pass.at_root mid c.loop-passed.passed h is
+          (leads g at.After-leads_up false w.if-leads_up.false))
     ]
 
 pub returns-clause-right : goal.returns-clause-right
-returns-clause-right g c = λ p has b b2.
-    let plus = g.R.Semiring.plus_of in
-    let start = c.args.self.now in
-    let tied = subst (λ (s : ShapeOf). AreLinked s.tree) c.shape.ensures c.cliques-count.ensures.linked in
-    let many : c.cliques-count.result ≡ length start.shape.tree.cliques = c.cliques-count.ensures.count ∙ ap (λ (s : ShapeOf). length s.tree.cliques) c.shape.ensures in
-    distribute_on_right plus start tied c.args.root c.requires.clique_is c.loop-passed.self c.loop-passed.passed (omega (arith, c.loop-passed-test.false, many)) c.loop-passed.invariant p has b b2
+returns-clause-right g c =
+    let pass = pass g (goal.at.returns-clause-right g c).After-cliques-count in
+    distribute_on_right g.R.Semiring.plus_of c.args.self.now pass.tied c.args.root pass.at_root
+    c.loop-passed.self c.loop-passed.passed (omega (arith, c.loop-passed-test.false, pass.many))
+    c.loop-passed.invariant
