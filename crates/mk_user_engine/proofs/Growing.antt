@@ -1,19 +1,24 @@
--- The narrow form with a pair more, with a ratio more, and with more names.
-use Rattle.std.proofs.Common.{◌≡◌, ℕ, suc, zero, ◌<◌, true, List, [], ◌∷◌, ◌++◌, All, length}
-use Rattle.std.proofs.Common.{slice_index, slice_index_or, Some, sym, subst, arith, length-append}
+-- The narrow form with a pair more, with a ratio more, and with other groups.
+use Rattle.std.proofs.Common.{◌≡◌, ℕ, suc, zero, ◌<◌, false, List, [], ◌∷◌, ◌++◌, All, length}
+use Rattle.std.proofs.Common.{slice_index, slice_index_or, Some, sym, ap, ◌∙◌, subst, arith}
+use Rattle.std.proofs.Common.{length-append}
 use Rattle.std.proofs.lemmas.List.Elements.{All-push, All-weaker}
 use Rattle.mk_net.specs.declared.words.Pair.{Pair}
 use Rattle.mk_net.specs.Asked.{TradeRatio, ratio_pairs}
 use Rattle.mk_net.specs.Network.{Variable, sizes}
 use Rattle.mk_states.specs.OfNetwork.{IsPairOf, IsRatioOf}
+use Rattle.mk_table.specs.Tables.{contradicts_pair}
 use Rattle.mk_tree.specs.Given.{GivenTree, home}
-use Rattle.mk_engine.specs.Meaning.{Meaning}
-use Rattle.mk_user_engine.specs.declared.names.Named.{Named}
-use Rattle.mk_user_engine.specs.declared.names.Names.{Names}
+use Rattle.mk_engine.specs.Meaning.{Meaning, Factor, RatioOf, with_factor, with_known}
+use Rattle.mk_user_engine.specs.declared.group.Group.{Group}
+use Rattle.mk_user_engine.specs.declared.groups.Groups.{Groups}
 use Rattle.mk_user_engine.specs.declared.narrow.PlacedRatio.{PlacedRatio}
-use Rattle.mk_user_engine.specs.declared.narrow.Narrow.{Narrow}
-use Rattle.mk_user_engine.specs.Names.{is_named, HasNames}
-use Rattle.mk_user_engine.specs.Narrow.{ratio_in, IsPlacedRatio, ArePlacedPairs, IsNarrow}
+use Rattle.mk_user_engine.specs.Narrow.{ratio_in, factors_of, ArePlacedPairs}
+use Rattle.mk_user_engine.specs.Grouped.{HasGroups, IsGathered, KeepsTogether, max_groups}
+use Rattle.mk_user_engine.specs.GroupedNarrow.{AreGrouped, IsGroupedRatio}
+use Rattle.mk_user_engine.proofs.Gathering.{stays_gathered}
+use Rattle.mk_user_engine.proofs.Over.{factors_push}
+use Rattle.mk_user_engine.proofs.Pairs.{agree_push}
 
 -- ---- a pair more
 
@@ -48,62 +53,82 @@ module _ (tree : GivenTree) (p : Pair) (at : ℕ) (here : home tree (p ∷ []) �
     home_is = homes_push ps hs h.one_home_each h.home_is;
   }
 
--- ---- more names
+-- ---- groups that keep together what they name
 
-pub placed_more : (network : List Variable) (tree : GivenTree) (old new : List Named) → ((x : ℕ)
-    → is_named old x ≡ true → is_named new x ≡ true)
-    → (t : PlacedRatio) → IsPlacedRatio network tree old t → IsPlacedRatio network tree new t
-placed_more network tree old new keeps t h = record {
-  home_is = h.home_is;
-  of_network = h.of_network;
-  variable_named = keeps (ratio_in t).variable h.variable_named;
-  condition_named = All-weaker (λ (p : Pair). is_named old p.variable ≡ true) (λ
-      (p : Pair). is_named new p.variable ≡ true) (λ p e. keeps p.variable e)
-      (ratio_in t).condition h.condition_named;
+module _ (old new : List Group) (keeps : KeepsTogether old new) where
+  pub all_regrouped : (network : List Variable) (tree : GivenTree) (ts : List PlacedRatio)
+      → All (IsGroupedRatio network tree old) ts → All (IsGroupedRatio network tree new) ts
+  all_regrouped network tree ts h =
+      All-weaker (IsGroupedRatio network tree old) (IsGroupedRatio network tree new)
+      (λ t is. record {
+        home_is = is.home_is;
+        of_network = is.of_network;
+        gathered = stays_gathered old new (ratio_in t) keeps is.gathered;
+      }) ts h
+
+pub regrouped : (old new : Groups) (ts : List PlacedRatio) (ks : List Pair) (homes : List ℕ)
+    (m : Meaning) → KeepsTogether old.list.items new.list.items → HasGroups (sizes m.network) new
+    → AreGrouped old ts ks homes m → AreGrouped new ts ks homes m
+regrouped old new ts ks homes m keeps has is = record {
+  legal = is.legal;
+  tree = is.tree;
+  factors_are = is.factors_are;
+  known_are = is.known_are;
+  groups = has;
+  trades = all_regrouped old.list.items new.list.items keeps m.network m.tree ts is.trades;
+  few_trades = is.few_trades;
+  pairs = is.pairs;
+  agree = is.agree;
 }
 
-module _ (n : Narrow) (m : Meaning) (is : IsNarrow n m) (names : Names) (has : HasNames
-    (sizes m.network) names)
-    (keeps : (x : ℕ) → is_named n.names.list.items x ≡ true
-    → is_named names.list.items x ≡ true) where
-  pub all_placed : All (IsPlacedRatio m.network m.tree names.list.items) n.trades.items
-  all_placed =
-      All-weaker (IsPlacedRatio m.network m.tree n.names.list.items) (IsPlacedRatio m.network
-      m.tree names.list.items)
-      (placed_more m.network m.tree n.names.list.items names.list.items keeps) n.trades.items
-      is.trades
-
-  pub renamed : IsNarrow (record {
-    names = names;
-    trades = n.trades;
-    known = n.known;
-    homes =
-        n.homes;
-  }) m
-  renamed = record {
-    legal = is.legal;
-    tree = is.tree;
-    factors_are = is.factors_are;
-    known_are = is.known_are;
-    names = has;
-    trades = all_placed;
-    few_trades = is.few_trades;
-    pairs = is.pairs;
-    agree = is.agree;
-    room = let r = is.room in record { trades = r.trades; known = r.known; homes = r.homes };
-  }
+-- ---- a ratio more
 
 -- the ratio of a copy
-pub placed_copy : (network : List Variable) (tree : GivenTree) (names : List Named)
+grouped_copy : (network : List Variable) (tree : GivenTree) (groups : List Group)
     (t : PlacedRatio) (r : TradeRatio) → ratio_in t ≡ r
-    → home tree (ratio_pairs r) ≡ Some t.home → IsRatioOf network r
-    → is_named names r.variable ≡ true
-    → All (λ (p : Pair). is_named names p.variable ≡ true) r.condition
-    → IsPlacedRatio network tree names t
-placed_copy network tree names t r e h is v c = record {
+    → home tree (ratio_pairs r) ≡ Some t.home → IsRatioOf network r → IsGathered groups r
+    → IsGroupedRatio network tree groups t
+grouped_copy network tree groups t r e h is g = record {
   home_is = subst (λ (q : TradeRatio). home tree (ratio_pairs q) ≡ Some t.home) (sym e) h;
   of_network = subst (λ (q : TradeRatio). IsRatioOf network q) (sym e) is;
-  variable_named = subst (λ (q : TradeRatio). is_named names q.variable ≡ true) (sym e) v;
-  condition_named = subst (λ (q : TradeRatio). All (λ (p : Pair). is_named names p.variable ≡ true)
-      q.condition) (sym e) c;
+  gathered = subst (λ (q : TradeRatio). IsGathered groups q) (sym e) g;
+}
+
+pub grouped_push : (gs : Groups) (ts : List PlacedRatio) (ks : List Pair) (homes : List ℕ)
+    (m : Meaning) (t : PlacedRatio) (r : TradeRatio) → ratio_in t ≡ r
+    → home m.tree (ratio_pairs r) ≡ Some t.home → IsRatioOf m.network r
+    → IsGathered gs.list.items r → length ts < max_groups → AreGrouped gs ts ks homes m
+    → AreGrouped gs (ts ++ t ∷ []) ks homes (with_factor (RatioOf r) m)
+grouped_push gs ts ks homes m t r e h of_net g few is = record {
+  legal = is.legal;
+  tree = is.tree;
+  factors_are =
+      ap (λ (fs : List Factor). fs ++ RatioOf r ∷ []) is.factors_are
+      ∙ ap (λ (q : TradeRatio). factors_of ts ++ RatioOf q ∷ []) (sym e)
+      ∙ factors_push ts t;
+  known_are = is.known_are;
+  groups = is.groups;
+  trades =
+      All-push (IsGroupedRatio m.network m.tree gs.list.items) ts t is.trades
+      (grouped_copy m.network m.tree gs.list.items t r e h of_net g);
+  few_trades = omega (arith, few, length-append ts (t ∷ []));
+  pairs = is.pairs;
+  agree = is.agree;
+}
+
+-- a pair that no known one contradicts
+pub known_push : (gs : Groups) (ts : List PlacedRatio) (ks : List Pair) (homes : List ℕ)
+    (m : Meaning) (p : Pair) (at : ℕ) → IsPairOf m.network p → home m.tree (p ∷ []) ≡ Some at
+    → contradicts_pair ks p ≡ false → AreGrouped gs ts ks homes m
+    → AreGrouped gs ts (ks ++ p ∷ []) (homes ++ at ∷ []) (with_known p m)
+known_push gs ts ks homes m p at of_net here none is = record {
+  legal = is.legal;
+  tree = is.tree;
+  factors_are = is.factors_are;
+  known_are = ap (λ (qs : List Pair). qs ++ p ∷ []) is.known_are;
+  groups = is.groups;
+  trades = is.trades;
+  few_trades = is.few_trades;
+  pairs = pairs_push m.tree p at here m.network ks homes of_net is.pairs;
+  agree = agree_push ks p is.agree none;
 }

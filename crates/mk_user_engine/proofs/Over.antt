@@ -13,7 +13,10 @@ use Rattle.mk_engine.specs.Beliefs.{CanKnow, CanMultiply}
 use Rattle.mk_tree_engine.specs.Engines.{MarkedFlow, HasTree}
 use Rattle.mk_user_engine.specs.declared.narrow.PlacedRatio.{PlacedRatio}
 use Rattle.mk_user_engine.specs.declared.narrow.Narrow.{Narrow}
-use Rattle.mk_user_engine.specs.Narrow.{ratio_in, factors_of, IsNarrow, IsPlacedRatio}
+use Rattle.mk_user_engine.specs.Narrow.{ratio_in, factors_of}
+use Rattle.mk_user_engine.specs.Grouped.{max_groups}
+use Rattle.mk_user_engine.specs.GroupedNarrow.{AreGrouped, IsGroupedRatio}
+use Rattle.mk_user_engine.specs.NarrowForm.{IsNarrow}
 
 -- some known pairs, and no ratio
 abbrev pub that_knows : Meaning → List Pair → Meaning
@@ -28,7 +31,10 @@ that_has m trades = record {
   known = m.known;
 }
 
-module _ (n : Narrow) (m : Meaning) (is : IsNarrow n m) (tree : MarkedFlow) where
+module _ (n : Narrow) (m : Meaning) (stands : IsNarrow n m) (tree : MarkedFlow) where
+  abbrev is : AreGrouped n.groups n.trades.items n.known.items n.homes.items m
+  is = stands.grouped
+
   -- ---- a known pair more
 
   module _ (known : List Pair) (has : HasTree least tree (that_knows m known)) (k : ℕ) (d : Pair)
@@ -51,8 +57,8 @@ module _ (n : Narrow) (m : Meaning) (is : IsNarrow n m) (tree : MarkedFlow) wher
   -- ---- a ratio more
 
   module _ (trades : List PlacedRatio) (has : HasTree least tree (that_has m trades))
-      (few : length trades < max_factors) (t : PlacedRatio) (placed : IsPlacedRatio m.network
-      m.tree n.names.list.items t) where
+      (few : length trades < max_factors) (t : PlacedRatio) (placed : IsGroupedRatio
+      m.network m.tree n.groups.list.items t) where
     pub ratio_at_home : home tree.flow.shape.tree (ratio_pairs (ratio_in t)) ≡ Some t.home
     ratio_at_home = subst (λ (o : GivenTree). home o (ratio_pairs (ratio_in t)) ≡ Some t.home)
         (sym has.tree_is) placed.home_is
@@ -77,6 +83,6 @@ pub taken_next : {X : Type 0} (xs : List X) (k : ℕ) (x : X) → k < length xs
     → x ≡ slice_index_or xs k x → take k xs ++ x ∷ [] ≡ take (k + 1) xs
 taken_next {X} xs k x l e = ap (λ (y : X). take k xs ++ y ∷ []) e ∙ sym (take_more xs k x l)
 
-pub few_taken : (ts : List PlacedRatio) (k : ℕ) → k < length ts → length ts ≤ 32
+pub few_taken : (ts : List PlacedRatio) (k : ℕ) → k < length ts → length ts ≤ max_groups
     → length (take k ts) < max_factors
 few_taken ts k l few = let e = length-take-le k ts (omega arith) in omega (arith, e, few, l)

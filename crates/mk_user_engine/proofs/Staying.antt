@@ -16,7 +16,7 @@ use Rattle.mk_propagate.specs.Shapes.{ShapeOf, IsShapeFor, IsClique, clique_scop
 use Rattle.mk_propagate.proofs.Scopes.{sized_within}
 use Rattle.mk_propagate.proofs.Required.{same_sizes, pair_same, ratio_same, all_pass}
 use Rattle.mk_user_engine.specs.declared.engine.UserEngine.{UserEngine}
-use Rattle.mk_user_engine.specs.Narrow.{CanTake}
+use Rattle.mk_user_engine.specs.NarrowForm.{CanTake}
 use Rattle.mk_user_engine.specs.Users.{StandsFor, IsBeside}
 
 -- the scope of a ratio's home has each variable of its condition

@@ -2,3 +2,12 @@ pub mod Names
 pub mod Narrow
 pub mod Laws
 pub mod Users
+pub mod Grouped
+pub mod Groups
+pub mod Shared
+pub mod LeastShared
+pub mod GroupedNarrow
+pub mod Kept
+pub mod NarrowForm
+pub mod GroupProducts
+pub mod GroupBelief

@@ -1,10 +1,9 @@
 -- The variables that trades name, and the values that cells give them.
 use Rattle.std.specs.Prelude.{◌≡◌, ℕ, ◌*◌, ◌/◌, ◌%◌, ◌<◌, ◌≤◌, Bool, not, ◌||◌, ◌==◌, if◌then◌else◌}
-use Rattle.std.specs.Prelude.{List, [], ◌∷◌, ◌++◌, All, length, slice_index, vec_capacity}
+use Rattle.std.specs.Prelude.{List, [], ◌∷◌, length, slice_index}
 use Rattle.std.specs.List.{list_any, list_all}
 use Rattle.mk_net.specs.declared.words.Pair.{Pair}
 use Rattle.mk_user_engine.specs.declared.names.Named.{Named}
-use Rattle.mk_user_engine.specs.declared.names.Names.{Names}
 
 -- cells of the narrow form, and variables, of which each has at least two values
 abbrev pub max_cells : ℕ
@@ -46,19 +45,3 @@ pub record IsSize (sizes : List ℕ) (variable values : ℕ) : Type 0 where
 
 abbrev pub IsSized : List ℕ → Named → Type 0
 IsSized sizes n = IsSize sizes n.variable n.values
-
--- named variables have their numbers of values, and cells for all their assignments
-pub record HasNames (sizes : List ℕ) (names : Names) : Type 0 where
-  pub strided : AreStrided 1 names.list.items names.cells
-  pub sized : All (IsSized sizes) names.list.items
-  pub few_cells : names.cells ≤ max_cells
-  pub room : max_names ≤ vec_capacity names.list
-
--- one variable more is named, the last
-pub record IsNext (old new : Names) (variable values : ℕ) : Type 0 where
-  pub list_is : new.list.items ≡ old.list.items ++ record {
-    variable = variable;
-    values = values;
-    stride = old.cells;
-  } ∷ []
-  pub cells_are : new.cells ≡ old.cells * values

@@ -1,31 +1,26 @@
--- The narrow form: a list of ratios and one of known pairs, and the product in each cell of the
--- variables that the ratios name.
-use Rattle.std.specs.Prelude.{◌≡◌, ℕ, ◌*◌, ◌<◌, ◌≤◌, Bool, true, false, if◌then◌else◌}
+-- A list of ratios and one of known pairs, and the product in each cell of named variables.
+use Rattle.std.specs.Prelude.{◌≡◌, ℕ, ◌*◌, ◌<◌, Bool, true, false, if◌then◌else◌}
 use Rattle.std.specs.Prelude.{List, [], ◌∷◌, All, map, length, slice_index, slice_index_or, Some}
-use Rattle.std.specs.Prelude.{vec_capacity}
 use Rattle.std.specs.List.{list_any, Contains}
 use Rattle.mk_net.specs.declared.words.Pair.{Pair}
-use Rattle.mk_net.specs.Asked.{TradeRatio, ratio_pairs}
+use Rattle.mk_net.specs.Asked.{TradeRatio}
 use Rattle.mk_net.specs.Trades.{trade_ratio}
-use Rattle.mk_net.specs.Network.{Variable, IsNetwork, sizes}
-use Rattle.mk_states.specs.OfNetwork.{IsPairOf, IsRatioOf}
+use Rattle.mk_net.specs.Network.{Variable}
+use Rattle.mk_states.specs.OfNetwork.{IsPairOf}
 use Rattle.mk_states.specs.States.{product_by}
 use Rattle.mk_sums.specs.There.{holds_there, ratio_there}
 use Rattle.mk_cell.specs.Cell.{StandsAt, IsOwnAt}
 use Rattle.mk_cell.specs.Least.{least}
 use Rattle.mk_cell.specs.Passes.{plus_below}
-use Rattle.mk_scope.specs.Scopes.{ScopeOf, HasSized}
 use Rattle.mk_tree.specs.Given.{GivenTree, home}
-use Rattle.mk_tree.specs.Checked.{IsTreeOf}
-use Rattle.mk_engine.specs.Meaning.{Meaning, Factor, RatioOf}
+use Rattle.mk_engine.specs.Meaning.{Factor, RatioOf}
 use Rattle.mk_user_engine.specs.declared.names.Named.{Named}
 use Rattle.mk_user_engine.specs.declared.narrow.PlacedRatio.{PlacedRatio}
-use Rattle.mk_user_engine.specs.declared.narrow.Narrow.{Narrow}
-use Rattle.mk_user_engine.specs.Names.{is_named, value_in, HasNames}
+use Rattle.mk_user_engine.specs.Names.{value_in}
 
 -- trades and known pairs of the narrow form
 abbrev pub max_trades : ℕ
-max_trades = 32
+max_trades = 64
 
 abbrev pub max_known : ℕ
 max_known = 256
@@ -84,21 +79,12 @@ pub record HaveProducts (names : List Named) (trades : List PlacedRatio) (asked 
       → (c : ℕ) × (c < count) × (slice_index_or asked c false ≡ true)
       × (is_met trades (value_in names c) ≡ true)
 
--- ---- what the narrow form stands for
+-- ---- known pairs
 
 -- no two pairs give one variable two values
 abbrev pub Agree : List Pair → Type 0
 Agree pairs = (p q : Pair) → Contains pairs p → Contains pairs q → p.variable ≡ q.variable
     → p.value ≡ q.value
-
--- a ratio in its home, whose variables are named
-pub record IsPlacedRatio (network : List Variable) (tree : GivenTree) (names : List Named)
-    (placed : PlacedRatio) : Type 0 where
-  pub home_is : home tree (ratio_pairs (ratio_in placed)) ≡ Some placed.home
-  pub of_network : IsRatioOf network (ratio_in placed)
-  pub variable_named : is_named names (ratio_in placed).variable ≡ true
-  pub condition_named : All (λ (p : Pair). is_named names p.variable ≡ true)
-      (ratio_in placed).condition
 
 -- known pairs in their homes
 pub record ArePlacedPairs (network : List Variable) (tree : GivenTree) (pairs : List Pair)
@@ -107,33 +93,6 @@ pub record ArePlacedPairs (network : List Variable) (tree : GivenTree) (pairs : 
   pub one_home_each : length homes ≡ length pairs
   pub home_is : (k : ℕ) (d : Pair) → k < length pairs
       → home tree (slice_index_or pairs k d ∷ []) ≡ Some (slice_index homes k)
-
--- as much as was reserved
-pub record HaveRoom (n : Narrow) : Type 0 where
-  pub trades : max_trades ≤ vec_capacity n.trades
-  pub known : max_known ≤ vec_capacity n.known
-  pub homes : max_known ≤ vec_capacity n.homes
-
--- its lists are a meaning's ratios, and its known pairs
-pub record IsNarrow (n : Narrow) (m : Meaning) : Type 0 where
-  pub legal : IsNetwork m.network
-  pub tree : IsTreeOf m.network m.tree
-  pub factors_are : m.factors ≡ factors_of n.trades.items
-  pub known_are : m.known ≡ n.known.items
-  pub names : HasNames (sizes m.network) n.names
-  pub trades : All (IsPlacedRatio m.network m.tree n.names.list.items) n.trades.items
-  pub few_trades : length n.trades.items ≤ max_trades
-  pub pairs : ArePlacedPairs m.network m.tree n.known.items n.homes.items
-  pub agree : Agree n.known.items
-  pub room : HaveRoom n
-
--- the meaning may have the ratio, and the scope each variable of its condition
-pub record CanTake (n : Narrow) (scope : ScopeOf) (at : ℕ) (ratio : TradeRatio)
-    (m : Meaning) : Type 0 where
-  pub stands : IsNarrow n m
-  pub of_network : IsRatioOf m.network ratio
-  pub home_is : home m.tree (ratio_pairs ratio) ≡ Some at
-  pub sized : All (λ (p : Pair). HasSized m.network scope p.variable) ratio.condition
 
 -- A cell stands for the least product of what is asked for; where no cell of that meets a
 -- condition, also for one of its own.

@@ -5,7 +5,7 @@ use Rattle.mk_engine.specs.Meaning.{Meaning, opening}
 use Rattle.mk_propagate.specs.Shapes.{IsShapeFor}
 use Rattle.mk_tree_engine.specs.Engines.{MarkedFlow, HasTree}
 use Rattle.mk_user_engine.specs.declared.engine.UserEngine.{UserEngine}
-use Rattle.mk_user_engine.specs.Narrow.{IsNarrow}
+use Rattle.mk_user_engine.specs.NarrowForm.{IsNarrow}
 
 -- nothing was given to the engine over the tree
 abbrev pub Begun : MarkedFlow → Meaning → Type 0

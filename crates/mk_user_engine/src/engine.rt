@@ -12,7 +12,7 @@ ghost use Rattle.mk_tree.specs.Held.{IsHeldAt};
 ghost use Rattle.mk_engine.specs.Meaning.{Meaning, RatioOf, with_factor, with_known, tree_grade};
 ghost use Rattle.mk_engine.specs.Beliefs.{CanKnow, CanMultiply};
 ghost use Rattle.mk_tree_engine.specs.Engines.{HasTree, IsPlanFor};
-ghost use Rattle.mk_user_engine.specs.Narrow.{IsNarrow};
+ghost use Rattle.mk_user_engine.specs.NarrowForm.{IsNarrow};
 ghost use Rattle.mk_user_engine.specs.Users.{StandsFor, Begun};
 
 use crate::narrow::Narrow;
@@ -26,12 +26,9 @@ use std::alloc::Global;
 use std::rc::Rc;
 
 /// An engine of least factors for one user, who mostly touches few questions. While the user's
-/// trades
-/// name few variables it keeps a list of them, and reckons a belief from that. When a limit is
-/// passed
-/// it gives all that it has to an engine over a tree, which then answers. Rows and supports go
-/// there
-/// at once.
+/// trades are few, and no group of variables that they tie together is large, it keeps a list of
+/// them, and reckons a belief from that. When a limit is passed it gives all that it has to an
+/// engine over a tree, which then answers. Rows and supports go there at once.
 #[derive(Drop)]
 pub struct UserEngine {
     pub(crate) shape: Rc<Shape>,

@@ -3,6 +3,12 @@
 #![tactic(auto)]
 
 mod engine;
+mod event_belief;
+mod group;
+mod group_laws;
+mod group_product;
+mod groups;
+mod kept;
 mod laws;
 mod names;
 mod narrow;

@@ -52,59 +52,8 @@ fn keep_pair(asked: &mut [bool], names: &[Named], pair: Pair)
     }
 }
 
-/// Writes the product of each cell that is asked for, and none elsewhere. Says whether one of them
-/// meets the condition of a ratio.
-pub(crate) fn write_products(
-    asked: &[bool],
-    digits: &mut [u64],
-    exponents: &mut [u32],
-    names: &[Named],
-    trades: &[PlacedRatio],
-) -> bool
-    requires names { All CanDivide names.now }
-    requires trades { All (IsListed names.now) trades.now }
-    requires few_trades { length trades.now ≤ max_trades }
-    requires few { length asked.now ≤ max_cells }
-    requires digits { length digits.old ≡ length asked.now }
-    requires exponents { length exponents.old ≡ length asked.now }
-    ensures { HaveProducts names.now trades.now asked.now digits.new exponents.new result
-        (length asked.now) }
-{
-    let mut met = false;
-    for cell in 0..asked.len() {
-        let mut product = Cell::ABSENT;
-        if asked[cell] {
-            let made = product_at(names, trades, cell as u32);
-            product = made.0;
-            met = met || made.1;
-        }
-        digits[cell] = product.digits;
-        exponents[cell] = product.exponent;
-    }
-    met
-}
-
-/// The product of all ratios in a cell, and whether it meets the condition of one.
-fn product_at(names: &[Named], trades: &[PlacedRatio], cell: u32) -> (Cell, bool)
-    requires names { All CanDivide names.now }
-    requires trades { All (IsListed names.now) trades.now }
-    requires few_trades { length trades.now ≤ max_trades }
-    ensures { HasProduct names.now trades.now cell (result.0).digits (result.0).exponent
-        (result.1) }
-{
-    let mut product = Cell::of_whole(1, 0);
-    let mut met = false;
-    for placed in trades {
-        if let Some(units) = units_in(names, &placed.ratio, cell) {
-            product = product.times(Cell::of_whole(units, UNIT_PLACES));
-            met = true;
-        }
-    }
-    (product, met)
-}
-
 /// The units of a ratio in a cell, where it meets the condition.
-fn units_in(names: &[Named], ratio: &Ratio, cell: u32) -> Option<u64>
+pub(crate) fn units_in(names: &[Named], ratio: &Ratio, cell: u32) -> Option<u64>
     requires names { All CanDivide names.now }
     requires value { value_in names.now cell ratio.now.variable < length ratio.now.factors.items }
     ensures met { IfSome result

@@ -5,22 +5,23 @@ use Rattle.mk_cell.specs.Least.{least}
 use Rattle.mk_engine.specs.Meaning.{Factor}
 use Rattle.mk_tree_engine.specs.Engines.{HasTree}
 use Rattle.mk_user_engine.specs.declared.narrow.PlacedRatio.{PlacedRatio}
-use Rattle.mk_user_engine.specs.Narrow.{factors_of, IsPlacedRatio}
+use Rattle.mk_user_engine.specs.Narrow.{factors_of}
+use Rattle.mk_user_engine.specs.GroupedNarrow.{IsGroupedRatio}
 use Rattle.mk_user_engine.proofs.Over.{that_has, can_multiply, factors_push, taken_next, few_taken}
 use Rattle.mk_user_engine.proofs.engine.pass_ratios.Goals as goal
 
 pub multiply-requires-clause-range : goal.multiply-requires-clause-range
 multiply-requires-clause-range c =
     let a = c.requires in let n = c.args.narrow.now in let i = c.loop-placed.placed-index
-    in let is = a.1 in
+    in let stands = a.1 in let is = stands.grouped in
     let t = c.placed-item.result in
     let l = subst (λ (ts : List PlacedRatio). i < length ts) c.deref-placed-items.ensures.value
     c.loop-placed-test.true in
     let e = subst (λ (ts : List PlacedRatio). t ≡ slice_index_or ts i t)
     c.deref-placed-items.ensures.value c.placed-item.is in
-    can_multiply n a.0 is c.loop-placed.tree (take i n.trades.items) (c.loop-placed.invariant a.0
-    is a.2) (few_taken n.trades.items i l is.few_trades) t
-    (subst (λ (s : PlacedRatio). IsPlacedRatio (a.0).network (a.0).tree n.names.list.items s)
+    can_multiply n a.0 stands c.loop-placed.tree (take i n.trades.items)
+    (c.loop-placed.invariant a.0 stands a.2) (few_taken n.trades.items i l is.few_trades) t
+    (subst (λ (s : PlacedRatio). IsGroupedRatio (a.0).network (a.0).tree n.groups.list.items s)
     (sym e) (is.trades i t l))
 
 pub loop-placed-preserved : goal.loop-placed-preserved
@@ -54,5 +55,5 @@ returns c = λ m is has.
       c.loop-placed-test.false,
       ap (λ (ys : List PlacedRatio). length ys) c.deref-placed-items.ensures.value,
     )))
-    ∙ sym is.factors_are)
+    ∙ sym (let g = is.grouped in g.factors_are))
     (c.loop-placed.invariant m is has)

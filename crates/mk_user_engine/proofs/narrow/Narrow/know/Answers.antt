@@ -1,8 +1,7 @@
-use Rattle.std.proofs.Common.{◌≡◌, false, List, ◌++◌, ◌∷◌, [], sym, ap, ◌∙◌, arith}
-use Rattle.mk_net.specs.declared.words.Pair.{Pair}
+use Rattle.std.proofs.Common.{◌≡◌, false, arith}
 use Rattle.mk_table.specs.Tables.{contradicts_pair}
-use Rattle.mk_user_engine.proofs.Pairs.{agree_push}
-use Rattle.mk_user_engine.proofs.Growing.{pairs_push}
+use Rattle.mk_user_engine.specs.Kept.{AreKept}
+use Rattle.mk_user_engine.proofs.Growing.{known_push}
 use Rattle.mk_user_engine.proofs.narrow.Narrow.know.Goals as goal
 
 pub returns-clause-taken : goal.returns-clause-taken
@@ -11,17 +10,12 @@ returns-clause-taken c = λ m is of_net at_home taken.
     let known = c.push_reserved.ensures in let homes = c.push_reserved-2.ensures in
     let none : contradicts_pair old.known.items p ≡ false = cc in
     let room = is.room in record {
-      legal = is.legal;
-      tree = is.tree;
-      factors_are = is.factors_are;
-      known_are = ap (λ (ks : List Pair). ks ++ p ∷ []) is.known_are ∙ sym known.items;
-      names = is.names;
-      trades = is.trades;
-      few_trades = is.few_trades;
-      pairs = rw (known.items, homes.items) (pairs_push m.tree p c.args.at at_home m.network
-          old.known.items old.homes.items of_net is.pairs);
-      agree = rw known.items (agree_push old.known.items p is.agree none);
+      grouped = rw (known.items, homes.items) (known_push old.groups old.trades.items
+          old.known.items old.homes.items m p c.args.at of_net at_home none is.grouped);
+      kept = λ e. absurd {A = AreKept old.groups.list.items old.trades.items
+          c.push_reserved.new.self.items old.kept.items} (cc);
       room = record {
+        kept = room.kept;
         trades = room.trades;
         known = omega (arith, room.known, known.capacity);
         homes = omega (arith, room.homes, homes.capacity);

@@ -1,0 +1,91 @@
+use Rattle.std.proofs.Common.{◌≡◌, ℕ, ◌<◌, List, [], ◌∷◌, ◌++◌, length, slice_index_or, Some, refl, sym, ap, subst, ◌∙◌, arith}
+use Rattle.std.proofs.lemmas.Bool.{both_ways}
+use Rattle.std.proofs.lemmas.List.{get_or_default}
+use Rattle.mk_net.specs.declared.words.Pair.{Pair}
+use Rattle.mk_net.specs.Trades.{trade_ratio}
+use Rattle.mk_engine.specs.Meaning.{Meaning, RatioOf, with_factor}
+use Rattle.mk_user_engine.specs.declared.group.Group.{Group}
+use Rattle.mk_user_engine.specs.declared.narrow.Narrow.{Narrow}
+use Rattle.mk_user_engine.specs.declared.narrow.PlacedRatio.{PlacedRatio}
+use Rattle.mk_user_engine.specs.Narrow.{ratio_in}
+use Rattle.mk_user_engine.specs.GroupedNarrow.{AreGrouped}
+use Rattle.mk_user_engine.specs.GroupProducts.{AreListedBy}
+use Rattle.mk_user_engine.specs.Kept.{HasGroupLeast, AreKept}
+use Rattle.mk_user_engine.specs.NarrowForm.{CanHold, IsHeldIn}
+use Rattle.mk_user_engine.proofs.GroupProducts.{append_none}
+use Rattle.mk_user_engine.proofs.GroupsBelieved.{listed_each}
+use Rattle.mk_user_engine.proofs.Growing.{grouped_push}
+use Rattle.mk_user_engine.proofs.Taking.{kept_taken}
+use Rattle.mk_user_engine.proofs.narrow.Narrow.take.Goals as goal
+
+-- the lists with the ratio
+more : (n : Narrow) (at place : ℕ) (t : PlacedRatio) (m : Meaning) → CanHold n at (ratio_in t) m
+    → t.home ≡ at → IsHeldIn n.groups.list.items place (ratio_in t)
+    → length n.trades.items < 64
+    → AreGrouped n.groups (n.trades.items ++ t ∷ []) n.known.items n.homes.items (with_factor (RatioOf (ratio_in t)) m)
+more n at place t m can here held few =
+    grouped_push n.groups n.trades.items n.known.items n.homes.items m t (ratio_in t) refl
+    (can.home_is ∙ ap Some (sym here)) can.of_network
+    (record { place = place; variable = held.variable; condition = held.condition }) few can.stands.grouped
+
+pub least_of-requires-clause-listed : goal.least_of-requires-clause-listed
+least_of-requires-clause-listed c =
+    let n = c.args.self.now in let t : PlacedRatio = record { home = c.args.at; ratio = c.copy_of.result } in
+    let same = sym c.copy_of.ensures in let r = c.requires.range in
+    let can = subst (λ q. CanHold n c.args.at q r.0) same r.1 in
+    let held = subst (λ q. IsHeldIn n.groups.list.items c.args.place q) same c.requires.place in
+    let is = more n c.args.at c.args.place t r.0 can refl held c.requires.few in
+    let listed = listed_each n.groups (n.trades.items ++ t ∷ []) n.known.items n.homes.items (with_factor (RatioOf (ratio_in t)) r.0) is in
+    subst (λ (ts : List PlacedRatio). AreListedBy c.index-group.result.now.names.items ts) (sym (c.deref.ensures.value ∙ c.push_reserved.ensures.items))
+    (subst (λ (g : Group). AreListedBy g.names.items (n.trades.items ++ t ∷ [])) (sym c.index-group.ensures)
+    (listed c.args.place c.index-group.result.now c.requires.place.within))
+
+pub returns-then-self : goal.returns-then-self
+returns-then-self c = λ m given.
+    let n = c.args.self.now in let gs = n.groups.list.items in let place = c.args.place in
+    let t : PlacedRatio = record { home = c.args.at; ratio = c.copy_of.result } in
+    let same = sym c.copy_of.ensures in let pushed = c.push_reserved.ensures in
+    let can = subst (λ q. CanHold n c.args.at q m) same given in
+    let held = subst (λ q. IsHeldIn gs place q) same c.requires.place in
+    let is = more n c.args.at place t m can refl held c.requires.few in
+    let room = can.stands.room in let l = c.least_of.result in
+    let ts = n.trades.items ++ t ∷ [] in
+    let has : (g : Group) → HasGroupLeast ts n.known.items (slice_index_or gs place g) l = λ g.
+    subst (λ (h : Group). HasGroupLeast ts n.known.items h l)
+    (c.index-group.ensures ∙ get_or_default gs place c.index-group.result.now g held.within)
+    (subst (λ (ks : List Pair). HasGroupLeast ts ks c.index-group.result.now l)
+    (append_none c.deref-then-self.result.now ∙ c.deref-then-self.ensures.value)
+    (subst (λ (us : List PlacedRatio). HasGroupLeast us (c.deref-then-self.result.now ++ []) c.index-group.result.now l)
+    (c.deref.ensures.value ∙ pushed.items) c.least_of.ensures)) in
+    record {
+      grouped = subst (λ (us : List PlacedRatio). AreGrouped n.groups us n.known.items n.homes.items (with_factor (RatioOf (trade_ratio c.args.ratio.now)) m)) (sym pushed.items)
+          (subst (λ q. AreGrouped n.groups (n.trades.items ++ t ∷ []) n.known.items n.homes.items (with_factor (RatioOf q) m)) c.copy_of.ensures is);
+      kept = λ e. rw pushed.items (kept_taken gs n.trades.items n.known.items t place held.within is.groups.apart held.variable n.kept.items l (can.stands.kept c.if-self.true) has);
+      room = record {
+        kept = room.kept;
+        trades = omega (arith, room.trades, pushed.capacity);
+        known = room.known;
+        homes = room.homes;
+      };
+    }
+
+pub returns-else-self : goal.returns-else-self
+returns-else-self c = λ m given.
+    let n = c.args.self.now in let gs = n.groups.list.items in let place = c.args.place in
+    let t : PlacedRatio = record { home = c.args.at; ratio = c.copy_of.result } in
+    let same = sym c.copy_of.ensures in let pushed = c.push_reserved.ensures in
+    let can = subst (λ q. CanHold n c.args.at q m) same given in
+    let held = subst (λ q. IsHeldIn gs place q) same c.requires.place in
+    let is = more n c.args.at place t m can refl held c.requires.few in
+    let room = can.stands.room in
+    record {
+      grouped = subst (λ (us : List PlacedRatio). AreGrouped n.groups us n.known.items n.homes.items (with_factor (RatioOf (trade_ratio c.args.ratio.now)) m)) (sym pushed.items)
+          (subst (λ q. AreGrouped n.groups (n.trades.items ++ t ∷ []) n.known.items n.homes.items (with_factor (RatioOf q) m)) c.copy_of.ensures is);
+      kept = λ e. absurd {A = AreKept gs c.push_reserved.new.self.items n.known.items n.kept.items} (both_ways n.is_kept c.if-self.false e);
+      room = record {
+        kept = room.kept;
+        trades = omega (arith, room.trades, pushed.capacity);
+        known = room.known;
+        homes = room.homes;
+      };
+    }

@@ -1,5 +1,0 @@
-use Rattle.mk_user_engine.specs.Narrow.{HaveProducts}
-use Rattle.mk_user_engine.proofs.product.write_products.Given as goal
-
-abbrev pub invariant-loop-cell : goal.invariant-loop-cell
-invariant-loop-cell l = HaveProducts l.names l.trades l.asked l.digits l.exponents l.met l.cell
