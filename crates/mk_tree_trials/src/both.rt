@@ -415,41 +415,41 @@ const IN_STAR: Sample = Sample {
     ],
 };
 
-/// Five values each, so that trades on three questions name more than 64 assignments.
-const FIVES: &str = "points_per_bit = 1
+/// Nine values of two questions, so that a trade on both names more than 64 assignments.
+const NINES: &str = "points_per_bit = 1
 max_trades = 1
 cliques = [['a', 'b'], ['b', 'c']]
 links = [1]
 [[variable]]
 name = 'a'
-values = ['p', 'q', 'r', 's', 't']
+values = ['p', 'q', 'r', 's', 't', 'u', 'v', 'w', 'x']
 parents = []
-rows = [[200000, 200000, 200000, 200000, 200000]]
+rows = [[200000, 100000, 100000, 100000, 100000, 100000, 100000, 100000, 100000]]
 [[variable]]
 name = 'b'
-values = ['p', 'q', 'r', 's', 't']
+values = ['p', 'q', 'r', 's', 't', 'u', 'v', 'w', 'x']
 parents = []
-rows = [[100000, 200000, 300000, 200000, 200000]]
+rows = [[100000, 100000, 200000, 100000, 100000, 100000, 100000, 100000, 100000]]
 [[variable]]
 name = 'c'
-values = ['p', 'q', 'r', 's', 't']
+values = ['p', 'q']
 parents = []
-rows = [[500000, 200000, 100000, 100000, 100000]]
+rows = [[700000, 300000]]
 ";
 
-/// A user's engine keeps the first trade in a list, and goes over to its tree at the second.
-const IN_FIVES: Sample = Sample {
-    file: FIVES,
+/// A user's engine keeps two trades in groups apart, and goes over to its tree at the third, which would join 81 assignments.
+const IN_NINES: Sample = Sample {
+    file: NINES,
     rows: 3,
     supports: 0,
     changes: &[
         Change::Rows(0),
         Change::Rows(1),
         Change::Rows(2),
-        Change::Traded(About(A, Some(B)), 733007751850, 1256584717458),
-        Change::Known(NOT_C),
         Change::Traded(About(C, None), 2, 7),
         Change::Traded(About(B, None), 3, 5),
+        Change::Known(NOT_C),
+        Change::Traded(About(A, Some(B)), 733007751850, 1256584717458),
         Change::Known(NOT_A),
     ],
     asked: &[
@@ -520,7 +520,7 @@ fn engines_are_as_walked(rt: HostRuntime) -> Result<(), Fail> {
     follow_sample(&rt, rt.alloc(), &IN_WEATHER)?;
     follow_sample(&rt, rt.alloc(), &ALONG_CHAIN)?;
     follow_sample(&rt, rt.alloc(), &IN_STAR)?;
-    follow_sample(&rt, rt.alloc(), &IN_FIVES)?;
+    follow_sample(&rt, rt.alloc(), &IN_NINES)?;
     follow_sample(&rt, rt.alloc(), &AT_GATES)
 }
 
