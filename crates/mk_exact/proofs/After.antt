@@ -1,6 +1,7 @@
 -- What one more entry changes in a history.
-use Rattle.std.proofs.Common.{◌≡◌, ℕ, ◌+◌, ◌*◌, ◌^◌, true, cond, ◌&&◌, eqb, List, [], ◌∷◌, ◌++◌, Option, Some, None, length, filter, filter_map, refl, sym, ap, ◌∙◌, append-nil, add-zero, mul_assoc, length-append, ne_eqb, eq-eqb}
+use Rattle.std.proofs.Common.{◌≡◌, ℕ, ◌+◌, ◌*◌, ◌^◌, true, false, ◌||◌, cond, ◌&&◌, eqb, List, [], ◌∷◌, ◌++◌, Option, Some, None, length, filter, filter_map, refl, sym, ap, ◌∙◌, append-nil, add-zero, mul_assoc, length-append, ne_eqb, eq-eqb}
 use Rattle.std.proofs.lemmas.List.Elements.{filter_map-append, filter-append}
+use Rattle.std.proofs.lemmas.List.Concat.{flat_map-append}
 use Rattle.std.proofs.lemmas.List.Sums.{sum_by_push}
 use Rattle.mk_net.specs.declared.words.Pair.{Pair}
 use Rattle.mk_net.specs.Network.{Variable}
@@ -9,7 +10,7 @@ use Rattle.mk_states.specs.States.{product_by}
 use Rattle.mk_states.specs.InitialWeight.{initial_weight}
 use Rattle.mk_states.specs.Events.{holds, has}
 use Rattle.mk_states.specs.Ratios.{unit, ratio_at}
-use Rattle.mk_exact.specs.History.{Entry, UserTrade, Join, Trade, Resolve, join_in, trade_in, resolution_in, bits_in, bits_out, users, trades, trades_of, resolutions, deposited, withdrawn}
+use Rattle.mk_exact.specs.History.{Entry, UserTrade, Join, Trade, Resolve, Settle, Deposit, Withdraw, Add, join_in, trade_in, resolution_in, payments_in, is_settlement, bits_in, bits_out, users, trades, trades_of, resolutions, is_settled, payments, deposited, withdrawn}
 use Rattle.mk_exact.specs.Weight.{weight, is_possible}
 use Rattle.mk_exact.specs.Factors.{Fraction, gain, trade_count, factor}
 use Rattle.mk_states.proofs.Sums.{product_by_push, list_all-append}
@@ -121,3 +122,40 @@ factor_moved H e u s q =
     ap (λ n. fraction_of s n (withdrawn (H ++ e ∷ []) u) (trades_of (H ++ e ∷ []) u)) (deposited_more H e u)
     ∙ ap (λ n. fraction_of s (deposited H u + bits_in u e) n (trades_of (H ++ e ∷ []) u)) (withdrawn_more H e u)
     ∙ ap (fraction_of s (deposited H u + bits_in u e) (withdrawn H u + bits_out u e)) (trades_of_kept H e u q)
+
+-- ---- payments
+
+-- an entry puts its payments behind those before
+pub payments_more : (H : List Entry) (e : Entry) → payments (H ++ e ∷ []) ≡ payments H ++ payments_in e
+payments_more H e = flat_map-append payments_in H (e ∷ []) ∙ ap (λ (ps : List (ℕ × ℕ)). payments H ++ ps) (append-nil (payments_in e))
+
+-- one that pays nothing leaves them
+pub payments_kept : (H : List Entry) (e : Entry) → payments_in e ≡ [] → payments (H ++ e ∷ []) ≡ payments H
+payments_kept H e none = payments_more H e ∙ ap (λ (ps : List (ℕ × ℕ)). payments H ++ ps) none ∙ append-nil (payments H)
+
+unpaid_first : (e : Entry) (H : List Entry) → (is_settlement e || is_settled H) ≡ false → payments H ≡ [] → payments (e ∷ H) ≡ []
+unpaid_first (Join name) H h none = none
+unpaid_first (Deposit u bits) H h none = none
+unpaid_first (Withdraw u bits) H h none = none
+unpaid_first (Trade u r) H h none = none
+unpaid_first (Resolve p) H h none = none
+unpaid_first (Settle paid) H h none = absurd (cc)
+unpaid_first (Add a) H h none = none
+
+behind_unsettled : (e : Entry) (H : List Entry) → (is_settlement e || is_settled H) ≡ false → is_settled H ≡ false
+behind_unsettled (Join name) H h = h
+behind_unsettled (Deposit u bits) H h = h
+behind_unsettled (Withdraw u bits) H h = h
+behind_unsettled (Trade u r) H h = h
+behind_unsettled (Resolve p) H h = h
+behind_unsettled (Settle paid) H h = absurd (cc)
+behind_unsettled (Add a) H h = h
+
+-- before the settlement there are none
+pub payments_before : (H : List Entry) → is_settled H ≡ false → payments H ≡ []
+payments_before [] h = refl
+payments_before (e ∷ H) h = unpaid_first e H h (payments_before H (behind_unsettled e H h))
+
+-- and after one its own
+pub payments_settled : (H : List Entry) (paid : List (ℕ × ℕ)) → is_settled H ≡ false → payments (H ++ Settle paid ∷ []) ≡ paid
+payments_settled H paid before = payments_more H (Settle paid) ∙ ap (λ (ps : List (ℕ × ℕ)). ps ++ paid) (payments_before H before)

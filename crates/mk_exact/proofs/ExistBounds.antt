@@ -79,7 +79,7 @@ module _ (H : List Entry) (bounds : IsWithinBounds H) (u : ℕ) where
       at (Withdraw v bits) h = omega arith
       at (Trade v r) h = omega arith
       at (Resolve p) h = omega arith
-      at Settle h = omega arith
+      at (Settle payments) h = omega arith
       at (Add a) h = omega arith
 
       same : sum_by (λ e. 1000 * cond (is_transfer e) 1 0) H ≤ 1000 * count_by is_transfer H
@@ -101,7 +101,7 @@ module _ (H : List Entry) (bounds : IsWithinBounds H) (u : ℕ) where
   cash_below small idle g b low high h few covers =
       let cash : covers.cash ≤ (deposited H u + 63 * trade_count H u) * b
       = cash_is_bounded (factor_with H u g) b (deposited H u + 63 * trade_count H u) covers.cash divides (factor_at_most g h) covers.is_cash in
-      let most : (deposited H u + 63 * trade_count H u) * b ≤ (1000 * 65536 + 63 * 65536) * 1000000 = mul-le-mul sum few in
+      let most : (deposited H u + 63 * trade_count H u) * b ≤ (1000 * 1000000 + 63 * 65536) * 1000000 = mul-le-mul sum few in
       omega (
         arith,
         cash_is_narrow small idle (factor_with H u g) b low high few covers,
@@ -111,7 +111,7 @@ module _ (H : List Entry) (bounds : IsWithinBounds H) (u : ℕ) where
       divides : 1 ≤ 2 ^ withdrawn H u * unit ^ trade_count H u
       divides = one-le-mul (one-le-pow (withdrawn H u) 2 (omega arith)) (one-le-pow (trade_count H u) unit (omega arith))
 
-      sum : deposited H u + 63 * trade_count H u ≤ 1000 * 65536 + 63 * 65536
+      sum : deposited H u + 63 * trade_count H u ≤ 1000 * 1000000 + 63 * 65536
       sum = omega (arith, deposited_at_most, own_trades.1, bounds.few_trades, bounds.few_transfers)
 
 pub cash_fits : (small idle : Type 0) (H : List Entry) (u : ℕ) (s : List ℕ) (b low high : ℕ)
@@ -157,7 +157,7 @@ bounds_kept H (Trade u r) bounds room = record {
   few_bits = each-append (λ x. (v : ℕ) → bits_in v x ≤ max_transfer_bits) H (Trade u r ∷ []) bounds.few_bits (λ v. omega arith, tt);
 }
 bounds_kept H (Resolve p) bounds room = none_kept H (Resolve p) refl (λ v. omega arith) (omega (arith, bounds.few_transfers)) bounds
-bounds_kept H Settle bounds room = none_kept H Settle refl (λ v. omega arith) (omega (arith, bounds.few_transfers)) bounds
+bounds_kept H (Settle payments) bounds room = none_kept H (Settle payments) refl (λ v. omega arith) (omega (arith, bounds.few_transfers)) bounds
 bounds_kept H (Add a) bounds room = none_kept H (Add a) refl (λ v. omega arith) (omega (arith, bounds.few_transfers)) bounds
 
 pub fair_pair_fits : (network : List Variable) (H : List Entry) (u : ℕ) (asked : Asked) (X F_t F_n : ℕ) → IsFairPair network H u asked X F_t F_n

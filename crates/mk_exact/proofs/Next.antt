@@ -152,5 +152,5 @@ sound_next network H (Deposit u bits) sound h = deposit_sound network H sound u 
 sound_next network H (Withdraw u bits) sound h = withdraw_sound network H sound u bits h
 sound_next network H (Trade u r) sound h = trade_sound network H sound u r h
 sound_next network H (Resolve p) sound h = resolve_sound network H sound p
-sound_next network H Settle sound h = quiet network H sound Settle refl refl (λ u. refl) (λ u. refl)
+sound_next network H (Settle payments) sound h = quiet network H sound (Settle payments) refl refl (λ u. refl) (λ u. refl)
 sound_next network H (Add a) sound h = quiet network H sound (Add a) refl refl (λ u. refl) (λ u. refl)

@@ -101,7 +101,7 @@ proper_next network H (Deposit u bits) proper h = quiet network H proper (Deposi
 proper_next network H (Withdraw u bits) proper h = quiet network H proper (Withdraw u bits) refl refl refl
 proper_next network H (Trade u r) proper h = trade_proper network H proper u r h
 proper_next network H (Resolve p) proper h = resolve_proper network H proper p h.0 h.1 h.2
-proper_next network H Settle proper h = quiet network H proper Settle refl refl refl
+proper_next network H (Settle payments) proper h = quiet network H proper (Settle payments) refl refl refl
 proper_next network H (Add a) proper h = quiet network H proper (Add a) refl refl refl
 
 pub empty_proper : (network : List Variable) → IsNetwork network → IsProper network []

@@ -39,7 +39,7 @@ IsAcceptable network H (Deposit u bits) = ⊤
 IsAcceptable network H (Withdraw u bits) = IfSome (least_gain network H u always) (λ g. Covers (factor_with H u g) bits)
 IsAcceptable network H (Trade u r) = IsSafeTrade network H u r
 IsAcceptable network H (Resolve p) = ⊤
-IsAcceptable network H Settle = ⊤
+IsAcceptable network H (Settle payments) = ⊤
 IsAcceptable network H (Add a) = ⊤
 
 -- a trade and a resolution speak of the network's own variables, a trade of a user who joined, and a resolution of a variable
@@ -50,7 +50,7 @@ IsInRange network H (Deposit u bits) = ⊤
 IsInRange network H (Withdraw u bits) = ⊤
 IsInRange network H (Trade u r) = IsTradeOf network (length (users H)) (record { user = u; ratio = r })
 IsInRange network H (Resolve p) = IsPairOf network p × (speaks_of (resolutions H) p.variable ≡ false) × (1 ≤ length (possible_states network H (has p)))
-IsInRange network H Settle = ⊤
+IsInRange network H (Settle payments) = ⊤
 IsInRange network H (Add a) = IsNetwork (network ++ a.variable ∷ [])
 
 -- each change of a list is acceptable and in range after those before it

@@ -13,6 +13,13 @@ pub record AreNearCash (near : ℕ) (q : Fraction) (b low high : ℕ) : Type 0 w
   pub low_near : q.num ^ b * (near - 1) ^ b < 2 ^ (low + 1) * near ^ b * q.den ^ b
   pub high_near : 2 ^ high * (near - 1) ^ b * q.den ^ b ≤ q.num ^ b * near ^ b
 
+-- the cash lies from low to high
+pub record IsCashBetween (q : Fraction) (b low high : ℕ) : Type 0 where
+  pub cash : ℕ
+  pub is_cash : IsCash q b cash
+  pub above : low ≤ cash
+  pub below : cash ≤ high
+
 -- low .. high covers the cash, and is near it by one part in 2^42 of the factor; in the small case
 -- by one part in 2^59. Of a user who holds no trade both are the cash
 pub record CoversCash (small idle : Type 0) (q : Fraction) (b low high : ℕ) : Type 0 where

@@ -111,7 +111,7 @@ pub record HasTraded : Type 0 where
 
 -- a market of the coin
 abbrev pub coin_alone : Market
-coin_alone = record { network = coin; cliques = (0 ∷ []) ∷ []; points_per_bit = 100; max_trades = 1000; zeros = false }
+coin_alone = record { network = coin; cliques = (0 ∷ []) ∷ []; points_per_bit = 100; max_trades = 1000; max_users = 256; max_transfers = 65536; zeros = false }
 
 -- the pair was fair and solvent, and the history is accepted
 pub record WasSafe : Type 0 where

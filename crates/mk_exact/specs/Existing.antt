@@ -201,7 +201,7 @@ OutcomeExists = (network : List Variable) (H : List Entry)
     → IsNetwork network → IsProper network H
     → ((v : ℕ) → v < length network → speaks_of (resolutions H) v ≡ true) → HasOutcome network H
 
--- a history of at most 65,536 trades, their units below 2^63, and at most 65,536 transfers, with at most 1,000 bits in each deposit
+-- a history of at most 65,536 trades, their units below 2^63, and at most a million transfers, with at most 1,000 bits in each deposit
 pub record IsWithinBounds (H : List Entry) : Type 0 where
   pub few_trades : length (trades H) ≤ max_market_trades
   pub units_fit : AllByRecursion (λ (t : UserTrade). AllByRecursion (λ n. n < number_limit) t.ratio.factors) (trades H)

@@ -1,5 +1,5 @@
 -- The accepted changes of a market, in order, and what is read off them.
-use Rattle.std.specs.Prelude.{ℕ, List, Bool, true, false, ◌==◌, if◌then◌else◌, Option, Some, None, length, filter, sum_by}
+use Rattle.std.specs.Prelude.{ℕ, List, Bool, true, false, ◌==◌, if◌then◌else◌, Option, Some, None, [], length, filter, flat_map, sum_by, slice_get}
 use Rattle.std.specs.List.{filter_map, list_any}
 use Rattle.mk_net.specs.declared.words.Pair.{Pair}
 use Rattle.mk_net.specs.Network.{Variable}
@@ -12,14 +12,15 @@ pub record Addition : Type 0 where
   pub clique : List ℕ
   pub link : ℕ
 
--- an accepted change; users are counted by their joining, from 0
+-- an accepted change; users are counted by their joining, from 0. A settlement has a payment for each user, in the order of
+-- joining: the two ends of an interval, of which the low one is paid
 pub data Entry : Type 0 where
   Join : (name : List ℕ) → Entry
   Deposit : (user bits : ℕ) → Entry
   Withdraw : (user bits : ℕ) → Entry
   Trade : (user : ℕ) (ratio : TradeRatio) → Entry
   Resolve : (pair : Pair) → Entry
-  Settle : Entry
+  Settle : (payments : List (ℕ × ℕ)) → Entry
   Add : (addition : Addition) → Entry
 
 -- one user's trade
@@ -44,8 +45,12 @@ addition_in (Add addition) = Some addition
 addition_in _ = None
 
 abbrev pub is_settlement : Entry → Bool
-is_settlement Settle = true
+is_settlement (Settle payments) = true
 is_settlement _ = false
+
+abbrev pub payments_in : Entry → List (ℕ × ℕ)
+payments_in (Settle payments) = payments
+payments_in _ = []
 
 abbrev pub is_transfer : Entry → Bool
 is_transfer (Deposit user bits) = true
@@ -79,6 +84,18 @@ additions H = filter_map addition_in H
 
 abbrev pub is_settled : List Entry → Bool
 is_settled H = list_any is_settlement H
+
+-- the payments of the settlement; there are none before it
+abbrev pub payments : List Entry → List (ℕ × ℕ)
+payments H = flat_map payments_in H
+
+abbrev pub or_nothing : Option (ℕ × ℕ) → ℕ × ℕ
+or_nothing None = (0, 0)
+or_nothing (Some payment) = payment
+
+-- what the settlement pays a user, and nothing before it
+abbrev pub payment_to : List Entry → ℕ → ℕ × ℕ
+payment_to H u = or_nothing (slice_get (payments H) u)
 
 abbrev pub deposited : List Entry → ℕ → ℕ
 deposited H u = sum_by (bits_in u) H

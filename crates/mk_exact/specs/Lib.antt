@@ -1,6 +1,7 @@
 pub mod History
 pub mod Weight
 pub mod Factors
+pub mod ByRule
 pub mod Prices
 pub mod Limits
 pub mod Cash

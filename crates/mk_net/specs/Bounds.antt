@@ -28,18 +28,29 @@ max_clique_cells = 4096
 abbrev pub max_cells : ℕ
 max_cells = 32768
 
--- users, trades and transfers of a market, and bits of one transfer
+-- the most users, trades and transfers that a market file may ask for, and bits of one transfer
 abbrev pub max_users : ℕ
-max_users = 256
+max_users = 65536
 
 abbrev pub max_market_trades : ℕ
 max_market_trades = 65536
 
 abbrev pub max_transfers : ℕ
-max_transfers = 65536
+max_transfers = 1000000
 
 abbrev pub max_transfer_bits : ℕ
 max_transfer_bits = 1000
+
+-- users and transfers of a market whose file does not say how many
+abbrev pub usual_users : ℕ
+usual_users = 256
+
+abbrev pub usual_transfers : ℕ
+usual_transfers = 65536
+
+-- payments that the reply to a settlement lists
+abbrev pub max_payments : ℕ
+max_payments = 256
 
 -- points that a bit is worth
 abbrev pub max_points_per_bit : ℕ

@@ -8,6 +8,8 @@ ghost use Rattle.mk_net.specs.Key.{key_text};
 pub enum Key {
     PointsPerBit,
     MaxTrades,
+    MaxUsers,
+    MaxTransfers,
     Variable,
     Cliques,
     Links,
@@ -26,6 +28,8 @@ impl Key {
         match self {
             Key::PointsPerBit => "points_per_bit",
             Key::MaxTrades => "max_trades",
+            Key::MaxUsers => "max_users",
+            Key::MaxTransfers => "max_transfers",
             Key::Variable => "variable",
             Key::Cliques => "cliques",
             Key::Links => "links",
