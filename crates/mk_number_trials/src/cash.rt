@@ -326,18 +326,18 @@ fn bounds(rt: HostRuntime) {
 
 #[test]
 fn ledger_calls(rt: HostRuntime) -> Result<(), Fail> {
-    let mut ledger = Ledger::start(rt.alloc())?;
+    let mut ledger = Ledger::start(rt.alloc(), 2)?;
     ledger.join();
     ledger.join();
     ledger.deposit(1, 300);
     ledger.deposit(1, 40);
     ledger.withdraw(1, 5);
-    ledger.pay(0, 7);
+    ledger.pay(0, 7, 8);
     assert!(rt; ledger.deposited(0) == 0);
     assert!(rt; ledger.withdrawn(0) == 0);
-    assert!(rt; ledger.paid(0) == 7);
+    assert!(rt; ledger.paid(0) == 7 && ledger.high(0) == 8);
     assert!(rt; ledger.deposited(1) == 340);
     assert!(rt; ledger.withdrawn(1) == 5);
-    assert!(rt; ledger.paid(1) == 0);
+    assert!(rt; ledger.paid(1) == 0 && ledger.high(1) == 0);
     Ok(())
 }

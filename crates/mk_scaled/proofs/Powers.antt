@@ -5,6 +5,8 @@ use Rattle.std.proofs.Math.Nat.{pow-suc, pow-zero, pow-le-pow_right, mul-le-mul,
 use Rattle.mk_scaled.specs.Range.{two_to, two_to-mono, two_to-suc, IsInRange}
 use Rattle.mk_scaled.specs.Near.{IsNear, near-mul, near_trans, near_same, near_more, near_width}
 use Rattle.mk_scaled.specs.Rounding.{IsGreatestBelow, IsLeastAbove}
+use Rattle.mk_scaled.specs.ByRule.{power_by}
+use Rattle.mk_scaled.specs.Rules.{power_by-even, power_by-odd}
 use Rattle.mk_scaled.specs.inner.Closeness.{near_below, near_above}
 use Rattle.mk_scaled.specs.inner.Wide.{IsNearRange}
 
@@ -101,3 +103,13 @@ squared_above x n r s o h l = rw (← even_power x n o) (le_trans (mul-le-mul h 
 pub odd_above : (x n r s t : ℕ) → n % 2 ≡ 1 → x ^ (n / 2) ≤ r → r * r ≤ s → s * x ≤ t → x ^ n ≤ t
 odd_above x n r s t o h l k =
     rw (← odd_power x n o) (le_trans (mul-le-mul_right x (le_trans (mul-le-mul h h) l)) k)
+
+-- ---- the same by a rule
+
+pub by_rule_even : (round : ℕ → ℕ) (x n r s : ℕ) → n % 2 ≢ 1 → n ≢ 1 → 1 ≤ n → r ≡ power_by round x (n / 2) → s ≡ round (r * r) → s ≡ power_by round x n
+by_rule_even round x n r s o w p h l =
+    l ∙ ap (λ y. round (y * y)) h ∙ sym (power_by-even round x n (omega arith) o)
+
+pub by_rule_odd : (round : ℕ → ℕ) (x n r s t : ℕ) → n % 2 ≡ 1 → n ≢ 1 → 1 ≤ n → r ≡ power_by round x (n / 2) → s ≡ round (r * r) → t ≡ round (s * x) → t ≡ power_by round x n
+by_rule_odd round x n r s t o w p h l k =
+    k ∙ ap (λ y. round (y * x)) l ∙ ap (λ y. round (round (y * y) * x)) h ∙ sym (power_by-odd round x n (omega arith) o)

@@ -1,5 +1,7 @@
 pub mod Form
 pub mod Range
 pub mod Rounding
+pub mod ByRule
 pub mod Near
+pub mod Rules
 pub mod inner

@@ -6,6 +6,7 @@ ghost use Rattle.std.specs.Int.{div_ceil};
 ghost use Rattle.std.specs.Option.{SomeIff};
 ghost use Rattle.std.specs.Ordering.{nat_cmp, as_partial_cmp};
 ghost use Rattle.std.proofs.Common.{rules};
+ghost use Rattle.mk_scaled.specs.ByRule.{rounded_down, rounded_up, power_by, whole_log};
 ghost use Rattle.mk_scaled.specs.Form.{mantissa_of, exponent_of, IsStored};
 ghost use Rattle.mk_scaled.specs.Near.{IsNear};
 ghost use Rattle.mk_scaled.specs.Range.{IsInRange};
@@ -210,6 +211,7 @@ impl Scaled {
         requires range { IsInRange (self.now ^ n) }
         ensures below { result ≤ self.now ^ n }
         ensures near { IsNear result (self.now ^ n) (2 * n) }
+        ensures rule { result ≡ power_by rounded_down self.now n }
     {
         // Opens the number: it is at least 1.
         let _positive = &self.mantissa;
@@ -223,6 +225,7 @@ impl Scaled {
         requires range { IsInRange (self.now ^ n) }
         ensures above { self.now ^ n ≤ result }
         ensures near { IsNear (self.now ^ n) result (2 * n) }
+        ensures rule { result ≡ power_by rounded_up self.now n }
     {
         // Opens the number: it is at least 1.
         let _positive = &self.mantissa;
@@ -234,6 +237,7 @@ impl Scaled {
         ensures below { 2 ^ result ≤ self.now }
         ensures greatest { self.now < 2 ^ (result + 1) }
         ensures small { result < 2 ^ 52 }
+        ensures log { result ≡ whole_log self.now }
     {
         self.exponent + self.mantissa.ilog2() as u64
     }

@@ -1,5 +1,6 @@
 //! Powers, by squaring.
 ghost use Rattle.std.specs.Prelude.{◌≡◌, ℕ, ◌+◌, ◌-◌, ◌*◌, ◌/◌, ◌^◌, ◌<◌, ◌≤◌};
+ghost use Rattle.mk_scaled.specs.ByRule.{rounded_down, rounded_up, power_by};
 ghost use Rattle.mk_scaled.specs.Near.{IsNear};
 ghost use Rattle.mk_scaled.specs.Range.{IsInRange};
 
@@ -13,6 +14,7 @@ pub fn down(base: &Scaled, n: u32) -> Scaled
     ensures positive { 1 ≤ result }
     ensures below { result ≤ base.now ^ n }
     ensures near { IsNear result (base.now ^ n) (n - 1) }
+    ensures rule { result ≡ power_by rounded_down base.now n }
 {
     if n == 1 {
         return *base;
@@ -35,6 +37,7 @@ pub fn up(base: &Scaled, n: u32) -> Scaled
     ensures positive { 1 ≤ result }
     ensures above { base.now ^ n ≤ result }
     ensures near { IsNear (base.now ^ n) result (n - 1) }
+    ensures rule { result ≡ power_by rounded_up base.now n }
 {
     if n == 1 {
         return *base;

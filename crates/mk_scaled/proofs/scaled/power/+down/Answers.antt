@@ -1,7 +1,10 @@
-use Rattle.std.proofs.Common.{arith, lt_of_le_of_lt, le_refl}
+use Rattle.std.proofs.Common.{sym, arith, lt_of_le_of_lt, le_refl}
+use Rattle.std.proofs.Math.Nat.{one-le-mul}
+use Rattle.mk_scaled.specs.ByRule.{rounded_down}
 use Rattle.mk_scaled.specs.Near.{near_self}
+use Rattle.mk_scaled.specs.Rules.{greatest_is, power_by-one}
 use Rattle.mk_scaled.specs.inner.Closeness.{greatest_positive}
-use Rattle.mk_scaled.proofs.Powers.{pow-at_one, half_below, squared_below, odd_below, near_even_down, near_odd_down}
+use Rattle.mk_scaled.proofs.Powers.{pow-at_one, half_below, squared_below, odd_below, near_even_down, near_odd_down, by_rule_even, by_rule_odd}
 use Rattle.mk_scaled.proofs.scaled.power.+down.Goals as goal
 
 pub returns-then-n-eq1-clause-below : goal.returns-then-n-eq1-clause-below
@@ -48,3 +51,20 @@ returns-else-n-eq1-2-clause-below t c =
 pub returns-else-n-eq1-2-clause-near : goal.returns-else-n-eq1-2-clause-near
 returns-else-n-eq1-2-clause-near t c =
     near_even_down c.args.base.now c.args.n _ _ c.if-n-eq1-2.false c.if-n-eq1.false c.requires.positive c.down-half.ensures.positive c.down-half.ensures.near c.mul_down-square.ensures
+
+pub returns-then-n-eq1-clause-rule : goal.returns-then-n-eq1-clause-rule
+returns-then-n-eq1-clause-rule t c = let e = c.if-n-eq1.true in sym (power_by-one rounded_down c.args.base.now c.args.n (omega arith))
+
+pub returns-then-n-eq1-2-clause-rule : goal.returns-then-n-eq1-2-clause-rule
+returns-then-n-eq1-2-clause-rule t c =
+    let half = c.down-half.ensures.positive in
+    let square = greatest_positive _ _ c.mul_down-square.ensures in
+    by_rule_odd rounded_down c.args.base.now c.args.n _ _ _ c.if-n-eq1-2.true c.if-n-eq1.false c.requires.positive c.down-half.ensures.rule
+    (greatest_is _ _ (one-le-mul half half) c.mul_down-square.ensures)
+    (greatest_is _ _ (one-le-mul square c.requires.base_positive) c.mul_down.ensures)
+
+pub returns-else-n-eq1-2-clause-rule : goal.returns-else-n-eq1-2-clause-rule
+returns-else-n-eq1-2-clause-rule t c =
+    let half = c.down-half.ensures.positive in
+    by_rule_even rounded_down c.args.base.now c.args.n _ _ c.if-n-eq1-2.false c.if-n-eq1.false c.requires.positive c.down-half.ensures.rule
+    (greatest_is _ _ (one-le-mul half half) c.mul_down-square.ensures)
