@@ -16,7 +16,7 @@ use Rattle.mk_net.specs.Checked.{is_within, number_of, has_double, checked_varia
 use Rattle.mk_net.specs.declared.key.Key.{Key}
 use Rattle.mk_net.specs.declared.fault.NetFault.{NetFault}
 use Rattle.mk_net.specs.declared.fault.NetFault.TheVariants.{Count as NetCount}
-use Rattle.mk_net.specs.declared.key.Key.TheVariants.{PointsPerBit, MaxTrades, Variable as VariableKey, Cliques, Links}
+use Rattle.mk_net.specs.declared.key.Key.TheVariants.{PointsPerBit, MaxTrades, MaxUsers, MaxTransfers, Variable as VariableKey, Cliques, Links}
 use Rattle.mk_net.proofs.Checked.{checked_is_network}
 use Rattle.mk_tree.specs.Given.{GivenTree, AreLinked}
 use Rattle.mk_tree.specs.Tests.{tree_fault}
@@ -102,18 +102,39 @@ one_link_fewer cliques links h =
     eqb-true (length links + 1) (length cliques)
     (not-false (length links + 1 == length cliques) (passed (not (length links + 1 == length cliques)) (Count Links 0 (pos (length links))) h))
 
-middle : {F : Type 0} (a b c d e f : Option F) → or_else a (or_else b (or_else c (or_else d (or_else e f)))) ≡ None → (d ≡ None) × (e ≡ None)
-middle None None None d e f h = let first = none_of d (or_else e f) h in (first.0, (none_of e f first.1).0)
-middle (Some x) b c d e f h = cc
-middle None (Some x) c d e f h = cc
-middle None None (Some x) d e f h = cc
+-- none of the four numbers of the top has a fault
+pub record AreTopPassed (draft : DraftOfMarket) : Type 0 where
+  pub points : whole_fault PointsPerBit 1 1000000 draft.points_per_bit ≡ None
+  pub trades : whole_fault MaxTrades 1 65536 draft.max_trades ≡ None
+  pub users : whole_fault MaxUsers 1 65536 draft.max_users ≡ None
+  pub transfers : whole_fault MaxTransfers 1 1000000 draft.max_transfers ≡ None
+
+-- the faults of a draft's items behind those of the top
+abbrev items_part : DraftOfMarket → Option FileFault
+items_part draft =
+    or_else (items_fault VariableKey 1 256 0 (length draft.variables))
+    (or_else (items_fault Cliques 1 256 0 (length draft.cliques))
+    (or_else (links_fault draft.cliques draft.links)
+    (or_else (option_map of_net (first_in count_at 1 draft.variables))
+    (or_else (first_in names_at 1 draft.cliques) None))))
+
+-- the numbers of the top and the items behind them
+top_passed : (draft : DraftOfMarket) → counts_fault draft ≡ None
+    → AreTopPassed draft × (items_part draft ≡ None)
+top_passed draft counted =
+    let wholes = none_of _ _ counted in
+    let points = none_of _ _ wholes.0 in
+    let trades = none_of _ _ points.1 in
+    let users = none_of _ _ trades.1 in
+    let transfers = none_of _ _ users.1 in
+    (record { points = points.0; trades = trades.0; users = users.0; transfers = transfers.0 }, wholes.1)
 
 lists_counted : (draft : DraftOfMarket) → counts_fault draft ≡ None
     → (items_fault Cliques 1 256 0 (length draft.cliques) ≡ None) × (links_fault draft.cliques draft.links ≡ None)
-lists_counted draft counted = middle
-    (whole_fault PointsPerBit 1 1000000 draft.points_per_bit) (whole_fault MaxTrades 1 65536 draft.max_trades) (items_fault VariableKey 1 256 0 (length draft.variables))
-    (items_fault Cliques 1 256 0 (length draft.cliques)) (links_fault draft.cliques draft.links)
-    (or_else (option_map of_net (first_in count_at 1 draft.variables)) (or_else (first_in names_at 1 draft.cliques) None)) counted
+lists_counted draft counted =
+    let variables = none_of _ _ (top_passed draft counted).1 in
+    let cliques = none_of _ _ variables.1 in
+    (cliques.0, (none_of _ _ cliques.1).0)
 
 pub linked_tree : (draft : DraftOfMarket) (cliques : List VarSet) (links : List ℕ) → counts_fault draft ≡ None
     → length cliques ≡ length draft.cliques → links ≡ map nat_abs draft.links → first_in link_at 2 draft.links ≡ None
@@ -167,36 +188,31 @@ trees_are draft network tree fault net fine linked same is =
     ap (λ (n : List Variable). tree_fault n (given_tree draft)) (sym net) ∙ ap (λ (t : GivenTree). tree_fault network t) (sym same) ∙ is in
     cliques_are draft network None net fine ∙ ap (λ o. or_else o (tree_part draft)) linked ∙ ap (λ f. or_else (option_map of_tree f) None) there
 
--- the fault of a tree is the fault of the draft
-pub tree_refused : (draft : DraftOfMarket) (fault : FileFault) → counts_fault draft ≡ None → first_fault draft.zeros draft.variables ≡ None
-    → trees_fault draft ≡ Some fault → of_draft (Ok draft) ≡ Err fault
-tree_refused draft fault counted checked bad =
-    let fine : variables_fault draft ≡ None = ap (λ o. option_map of_net o) (none_of (count_fault draft.variables) (draft_later draft.zeros draft.variables) checked).1 in
-    let rest = or_else (first_in (clique_at draft) 1 draft.cliques) (or_else (first_in link_at 2 draft.links) (tree_part draft)) in
-    ap (λ o. unless o (market_in draft)) (ap (λ o. or_else o (or_else (variables_fault draft) rest)) counted ∙ ap (λ o. or_else o rest) fine ∙ bad)
+-- what is wrong with the tree is what is wrong with the draft
+pub judged : (draft : DraftOfMarket) (fault : Option FileFault) → counts_fault draft ≡ None
+    → first_fault draft.zeros draft.variables ≡ None → trees_fault draft ≡ fault
+    → of_draft (Ok draft) ≡ unless fault (market_in draft)
+judged draft fault counted checked whole =
+    let later = none_of (count_fault draft.variables) (draft_later draft.zeros draft.variables) checked in
+    let fine : variables_fault draft ≡ None = ap (λ o. option_map of_net o) later.1 in
+    let rest = trees_fault draft in
+    ap (λ o. unless o (market_in draft))
+    (ap (λ o. or_else o (or_else (variables_fault draft) rest)) counted ∙ ap (λ o. or_else o rest) fine ∙ whole)
 
 -- and its network's first fault where its numbers have none
 unmapped : (fault : Option NetFault) → option_map of_net fault ≡ None → fault ≡ None
 unmapped None h = refl
 unmapped (Some e) h = cc
 
-sixth : {F : Type 0} (a b c d e f g : Option F) → or_else a (or_else b (or_else c (or_else d (or_else e (or_else f g))))) ≡ None → (c ≡ None) × (f ≡ None)
-sixth None None None None None f g h = (refl, (none_of f g h).0)
-sixth (Some x) b c d e f g h = cc
-sixth None (Some x) c d e f g h = cc
-sixth None None (Some x) d e f g h = cc
-sixth None None None (Some x) e f g h = cc
-sixth None None None None (Some x) f g h = cc
-
 variables_counted : (draft : DraftOfMarket) → counts_fault draft ≡ None → count_fault draft.variables ≡ None
 variables_counted draft counted =
-    let parts = sixth
-    (whole_fault PointsPerBit 1 1000000 draft.points_per_bit) (whole_fault MaxTrades 1 65536 draft.max_trades) (items_fault VariableKey 1 256 0 (length draft.variables))
-    (items_fault Cliques 1 256 0 (length draft.cliques)) (links_fault draft.cliques draft.links)
-    (option_map of_net (first_in count_at 1 draft.variables)) (or_else (first_in names_at 1 draft.cliques) None) counted in
-    let few = passed (not (is_within 1 256 (length draft.variables))) (Count VariableKey 0 (pos (length draft.variables))) parts.0 in
+    let variables = none_of _ _ (top_passed draft counted).1 in
+    let cliques = none_of _ _ variables.1 in
+    let links = none_of _ _ cliques.1 in
+    let count = length draft.variables in
+    let few = passed (not (is_within 1 256 count)) (Count VariableKey 0 (pos count)) variables.0 in
     ap (λ test. or_else (fault_if test (NetCount VariableKey 0 (pos (length draft.variables)))) (first_in count_at 1 draft.variables)) few
-    ∙ unmapped (first_in count_at 1 draft.variables) parts.1
+    ∙ unmapped (first_in count_at 1 draft.variables) (none_of _ _ links.1).0
 
 pub network_refused : (draft : DraftOfMarket) (fault : NetFault) → counts_fault draft ≡ None → first_fault draft.zeros draft.variables ≡ Some fault → of_draft (Ok draft) ≡ Err (of_net fault)
 network_refused draft fault counted bad =
@@ -219,12 +235,19 @@ cast_within key high (pos n) small h =
     subst (λ z. IsCast high z) (sym (to_z-of_z fits)) (record { fits = (_, omega (arith, small, top)); low = low; top = top })
 cast_within key high (negsuc n) small h = cc
 
-first_two : {F : Type 0} (a b c : Option F) → or_else a (or_else b c) ≡ None → (a ≡ None) × (b ≡ None)
-first_two None None c h = (refl, refl)
-first_two (Some x) b c h = cc
-first_two None (Some x) c h = cc
+-- the four numbers of the top, as the program casts them
+pub record AreCast (draft : DraftOfMarket) : Type 0 where
+  pub points : IsCast 1000000 (to_z w64 (of_z w64 draft.points_per_bit))
+  pub trades : IsCast 65536 (to_z w64 (of_z w64 draft.max_trades))
+  pub users : IsCast 65536 (to_z w64 (of_z w64 draft.max_users))
+  pub transfers : IsCast 1000000 (to_z w64 (of_z w64 draft.max_transfers))
 
-pub top_cast : (draft : DraftOfMarket) → counts_fault draft ≡ None → IsCast 1000000 (to_z w64 (of_z w64 draft.points_per_bit)) × IsCast 65536 (to_z w64 (of_z w64 draft.max_trades))
+pub top_cast : (draft : DraftOfMarket) → counts_fault draft ≡ None → AreCast draft
 top_cast draft counted =
-    let two = first_two (whole_fault PointsPerBit 1 1000000 draft.points_per_bit) (whole_fault MaxTrades 1 65536 draft.max_trades) _ counted in
-    (cast_within PointsPerBit 1000000 draft.points_per_bit (omega arith) two.0, cast_within MaxTrades 65536 draft.max_trades (omega arith) two.1)
+    let top = (top_passed draft counted).0 in
+    record {
+      points = cast_within PointsPerBit 1000000 draft.points_per_bit (omega arith) top.points;
+      trades = cast_within MaxTrades 65536 draft.max_trades (omega arith) top.trades;
+      users = cast_within MaxUsers 65536 draft.max_users (omega arith) top.users;
+      transfers = cast_within MaxTransfers 1000000 draft.max_transfers (omega arith) top.transfers;
+    }

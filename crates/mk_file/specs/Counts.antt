@@ -1,10 +1,10 @@
 -- The numbers of a market file, and the faults of the network in it.
 use Rattle.std.specs.Prelude.{ℕ, ◌+◌, ℤ, pos, negsuc, List, [], ◌∷◌, length, Bool, false, not, ◌==◌, Option, option_map}
 use Rattle.mk_net.specs.declared.key.Key.{Key}
-use Rattle.mk_net.specs.declared.key.Key.TheVariants.{PointsPerBit, MaxTrades, Variable, Cliques, Links}
+use Rattle.mk_net.specs.declared.key.Key.TheVariants.{PointsPerBit, MaxTrades, MaxUsers, MaxTransfers, Variable, Cliques, Links}
 use Rattle.mk_net.specs.declared.fault.NetFault.{NetFault}
 use Rattle.mk_net.specs.declared.fault.NetFault.TheVariants.{Count as NetCount, BadName as NetBadName, Repeat as NetRepeat, Parent as NetParent, Rows as NetRows, Width as NetWidth, Entry as NetEntry, Sum as NetSum, Memory as NetMemory}
-use Rattle.mk_net.specs.Bounds.{max_variables, max_cliques, max_market_trades, max_points_per_bit}
+use Rattle.mk_net.specs.Bounds.{max_variables, max_cliques, max_users, max_market_trades, max_transfers, max_points_per_bit}
 use Rattle.mk_net.specs.Firsts.{fault_if, first_of, first_in}
 use Rattle.mk_net.specs.Checked.{is_within, count_at, later_fault}
 use Rattle.mk_file.specs.declared.fault.FileFault.{FileFault}
@@ -43,11 +43,19 @@ links_fault cliques links = fault_if (not (length links + 1 == length cliques)) 
 abbrev pub names_at : ℕ → List (List ℕ) → Option FileFault
 names_at k names = items_fault Cliques 1 max_variables k (length names)
 
+-- the first of the four whole numbers outside its limits
+abbrev pub wholes_fault : DraftOfMarket → Option FileFault
+wholes_fault draft = first_of (
+    whole_fault PointsPerBit 1 max_points_per_bit draft.points_per_bit
+    ∷ whole_fault MaxTrades 1 max_market_trades draft.max_trades
+    ∷ whole_fault MaxUsers 1 max_users draft.max_users
+    ∷ whole_fault MaxTransfers 1 max_transfers draft.max_transfers
+    ∷ [])
+
 -- the first number outside its limits: those of the top, then those of the variables, then those of the cliques
 abbrev pub counts_fault : DraftOfMarket → Option FileFault
 counts_fault draft = first_of (
-    whole_fault PointsPerBit 1 max_points_per_bit draft.points_per_bit
-    ∷ whole_fault MaxTrades 1 max_market_trades draft.max_trades
+    wholes_fault draft
     ∷ items_fault Variable 1 max_variables 0 (length draft.variables)
     ∷ items_fault Cliques 1 max_cliques 0 (length draft.cliques)
     ∷ links_fault draft.cliques draft.links

@@ -27,13 +27,15 @@ draft_fault draft = first_of (
     ∷ option_map of_tree (tree_fault (checked_network draft.variables) (given_tree draft))
     ∷ [])
 
--- the market of a draft without a fault; both numbers are positive there
+-- the market of a draft without a fault; its four numbers are positive there
 abbrev pub market_in : DraftOfMarket → Market
 market_in draft = record {
   network = checked_network draft.variables;
   cliques = map (members (checked_network draft.variables)) (given_tree draft).cliques;
   points_per_bit = nat_abs draft.points_per_bit;
   max_trades = nat_abs draft.max_trades;
+  max_users = nat_abs draft.max_users;
+  max_transfers = nat_abs draft.max_transfers;
   zeros = draft.zeros;
 }
 

@@ -11,5 +11,7 @@ market_of file = record {
   cliques = map (members file.net) file.tree.cliques;
   points_per_bit = file.points_per_bit;
   max_trades = file.max_trades;
+  max_users = file.max_users;
+  max_transfers = file.max_transfers;
   zeros = file.zeros;
 }

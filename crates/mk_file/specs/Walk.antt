@@ -1,18 +1,21 @@
 -- The walk over a document: each key there and of its kind, or the first that is not; its place is 0 at the top, or a
 -- variable's number from 1.
-use Rattle.std.specs.Prelude.{ℕ, ◌+◌, ℤ, Bool, false, List, [], ◌∷◌, Option, Some, None, option_map, option_and_then, Result, Ok, Err}
+use Rattle.std.specs.Prelude.{ℕ, ◌+◌, ℤ, pos, Bool, false, List, [], ◌∷◌, Option, Some, None, option_map, option_and_then, Result, Ok, Err}
 use Rattle.toml.specs.Data.{Data, Items, no_items, item, Members, get_member, as_str, as_integer, as_bool, as_array, as_table}
 use Rattle.mk_file.specs.declared.fault.FileFault.{FileFault}
 use Rattle.mk_file.specs.declared.fault.FileFault.TheVariants.{Missing, WrongType}
 use Rattle.mk_net.specs.declared.key.Key.{Key}
-use Rattle.mk_net.specs.declared.key.Key.TheVariants.{PointsPerBit, MaxTrades, Variable, Cliques, Links, Zeros, Name, Values, Parents, Rows}
+use Rattle.mk_net.specs.declared.key.Key.TheVariants.{PointsPerBit, MaxTrades, MaxUsers, MaxTransfers, Variable, Cliques, Links, Zeros, Name, Values, Parents, Rows}
 use Rattle.mk_net.specs.Key.{key_text}
+use Rattle.mk_net.specs.Bounds.{usual_users, usual_transfers}
 use Rattle.mk_net.specs.Drafts.{DraftOfVariable}
 
 -- what a document says, once each key is there and of its kind
 pub record DraftOfMarket : Type 0 where
   pub points_per_bit : ℤ
   pub max_trades : ℤ
+  pub max_users : ℤ
+  pub max_transfers : ℤ
   pub variables : List DraftOfVariable
   pub cliques : List (List (List ℕ))
   pub links : List ℤ
@@ -75,15 +78,26 @@ variables_in place (table ∷ tables) =
     then_with (variable_in place table) (λ variable.
     then_with (variables_in (place + 1) tables) (λ variables. Ok (variable ∷ variables)))
 
--- what a document says, or the first key that is missing or of another kind: the top keys first, then the variables. Only `zeros` may be
--- absent, and is false then.
+-- what a document says, or the first key that is missing or of another kind: the top keys first, then the variables. Three of them
+-- may be absent: `max_users` and `max_transfers` are the usual numbers then, and `zeros` is false.
 abbrev pub draft_in : Members → Result DraftOfMarket FileFault
 draft_in document =
     then_with (required PointsPerBit 0 as_integer document) (λ points_per_bit.
     then_with (required MaxTrades 0 as_integer document) (λ max_trades.
+    then_with (optional (pos usual_users) MaxUsers 0 as_integer document) (λ max_users.
+    then_with (optional (pos usual_transfers) MaxTransfers 0 as_integer document) (λ max_transfers.
     then_with (required Variable 0 (list_of as_table) document) (λ tables.
     then_with (required Cliques 0 (list_of texts) document) (λ cliques.
     then_with (required Links 0 wholes document) (λ links.
     then_with (optional false Zeros 0 as_bool document) (λ zeros.
     then_with (variables_in 1 tables) (λ variables.
-    Ok (record { points_per_bit = points_per_bit; max_trades = max_trades; variables = variables; cliques = cliques; links = links; zeros = zeros }))))))))
+    Ok (record {
+      points_per_bit = points_per_bit;
+      max_trades = max_trades;
+      max_users = max_users;
+      max_transfers = max_transfers;
+      variables = variables;
+      cliques = cliques;
+      links = links;
+      zeros = zeros;
+    }))))))))))

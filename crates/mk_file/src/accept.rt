@@ -50,6 +50,8 @@ pub fn accept(alloc: Global, draft: &MarketDraft) -> Result<MarketFile, FileFaul
         tree,
         points_per_bit: draft.points_per_bit as u32,
         max_trades: draft.max_trades as u32,
+        max_users: draft.max_users as u32,
+        max_transfers: draft.max_transfers as u32,
         zeros: draft.draft.zeros,
     })
 }

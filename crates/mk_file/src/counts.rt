@@ -75,14 +75,24 @@ fn stop_at(fault: Option<FileFault>) -> Result<(), FileFault>
     }
 }
 
+/// Goes on where each of the four whole numbers is within its limits.
+fn check_wholes(draft: &MarketDraft) -> Result<(), FileFault>
+    ensures passes { IfOk result (λ _. counts.wholes_fault (draft_of draft.now) ≡ None) }
+    ensures stops { IfErr result (λ stop. counts.wholes_fault (draft_of draft.now) ≡ Some stop) }
+{
+    stop_at(whole_fault(Key::PointsPerBit, 1_000_000, draft.points_per_bit))?;
+    stop_at(whole_fault(Key::MaxTrades, 65_536, draft.max_trades))?;
+    stop_at(whole_fault(Key::MaxUsers, 65_536, draft.max_users))?;
+    stop_at(whole_fault(Key::MaxTransfers, 1_000_000, draft.max_transfers))
+}
+
 /// Goes on where each number is within its limits: those of the top, then those of the variables, then those of the
 /// cliques.
 pub fn check_counts(draft: &MarketDraft) -> Result<(), FileFault>
     ensures passes { IfOk result (λ _. counts.counts_fault (draft_of draft.now) ≡ None) }
     ensures stops { IfErr result (λ stop. counts.counts_fault (draft_of draft.now) ≡ Some stop) }
 {
-    stop_at(whole_fault(Key::PointsPerBit, 1_000_000, draft.points_per_bit))?;
-    stop_at(whole_fault(Key::MaxTrades, 65_536, draft.max_trades))?;
+    check_wholes(draft)?;
     stop_at(items_fault(Key::Variable, 0, draft.draft.variables.len()))?;
     stop_at(items_fault(Key::Cliques, 0, draft.cliques.len()))?;
     stop_at(links_fault(&draft.cliques, &draft.links))?;

@@ -1,4 +1,4 @@
-//! The market file: TOML text that gives the questions of a market, its tree and two numbers.
+//! The market file: TOML text that gives the questions of a market, its tree and some numbers.
 #![tactic(auto)]
 
 mod accept;

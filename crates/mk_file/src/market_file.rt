@@ -8,19 +8,25 @@ ghost use Rattle.mk_tree.specs.Tests.{tree_fault};
 use mk_net::Network;
 use mk_tree::Tree;
 
-/// An accepted market file: the network of its questions, its tree, the points of one bit of score, how many trades
-/// the market takes, and whether a row may give a value a share of nothing.
+/// An accepted market file: the network of its questions, its tree, the points of one bit of score, how many trades,
+/// users and transfers the market takes, and whether a row may give a value a share of nothing.
 #[derive(Drop)]
 pub struct MarketFile {
     pub net: Network,
     pub tree: Tree,
     pub points_per_bit: u32,
     pub max_trades: u32,
+    pub max_users: u32,
+    pub max_transfers: u32,
     pub zeros: bool,
     ghost points_positive: { 1 ≤ points_per_bit },
     ghost points_most: { points_per_bit ≤ 1000000 },
     ghost trades_positive: { 1 ≤ max_trades },
     ghost trades_most: { max_trades ≤ 65536 },
+    ghost users_positive: { 1 ≤ max_users },
+    ghost users_most: { max_users ≤ 65536 },
+    ghost transfers_positive: { 1 ≤ max_transfers },
+    ghost transfers_most: { max_transfers ≤ 1000000 },
     ghost tree_of_net: { ∥ IsTreeOf net tree ∥₁ },
     ghost tree_faultless: { tree_fault net tree ≡ None },
     ghost no_zeros: { zeros ≡ false → HasNoZeros net },

@@ -1,4 +1,4 @@
-//! Keys that have to be there, with values of a kind.
+//! Keys with values of a kind: those that have to be there, and those that may be absent.
 
 ghost use Rattle.std.specs.Prelude.{◌≡◌, Some, None, IfOk, IfErr, OnErr, false, option_map, string_bytes};
 ghost use Rattle.toml.specs.Data.{get_member, as_str, as_integer, as_bool, as_table};
@@ -78,6 +78,19 @@ pub fn required_whole(table: &Table, key: Key, place: u32) -> Result<i64, FileFa
 {
     let read = value_at(table, key, place)?.as_integer();
     read.ok_or(FileFault::WrongType { key, place })
+}
+
+/// The whole number at a key, or another number where the key is absent.
+pub fn whole_or(table: &Table, key: Key, place: u32, absent: i64) -> Result<i64, FileFault>
+    ensures { Gives (λ z. z) result
+        (optional absent key place as_integer (table_view table.now)) }
+{
+    match member(table, key) {
+        Some(value) => value
+            .as_integer()
+            .ok_or(FileFault::WrongType { key, place }),
+        None => Ok(absent),
+    }
 }
 
 /// Whether the truth value at a key is true. It is false where the key is absent.

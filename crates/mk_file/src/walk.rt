@@ -9,17 +9,25 @@ ghost use Rattle.mk_file.specs.inner.Views.{Gives, draft_of};
 use crate::fault::FileFault;
 use crate::required::{
     is_set, required_lists, required_rows, required_tables, required_text, required_texts,
-    required_whole, required_wholes,
+    required_whole, required_wholes, whole_or,
 };
 use mk_net::{Draft, Key, VariableDraft};
 use std::alloc::Global;
 use toml::Table;
+
+/// The users of a market whose file does not say how many.
+const USUAL_USERS: i64 = 256;
+
+/// The transfers of a market whose file does not say how many.
+const USUAL_TRANSFERS: i64 = 65_536;
 
 /// What a document says, once each key is there and of its kind.
 #[derive(Debug, Drop)]
 pub struct MarketDraft {
     pub points_per_bit: i64,
     pub max_trades: i64,
+    pub max_users: i64,
+    pub max_transfers: i64,
     pub draft: Draft,
     pub cliques: Vec<Vec<String>>,
     pub links: Vec<i64>,
@@ -71,6 +79,8 @@ pub fn read_draft(alloc: Global, document: &Table) -> Result<MarketDraft, FileFa
 {
     let points_per_bit = required_whole(document, Key::PointsPerBit, 0)?;
     let max_trades = required_whole(document, Key::MaxTrades, 0)?;
+    let max_users = whole_or(document, Key::MaxUsers, 0, USUAL_USERS)?;
+    let max_transfers = whole_or(document, Key::MaxTransfers, 0, USUAL_TRANSFERS)?;
     let tables = required_tables(alloc, document, Key::Variable, 0)?;
     let cliques = required_lists(alloc, document, Key::Cliques, 0)?;
     let links = required_wholes(alloc, document, Key::Links, 0)?;
@@ -79,6 +89,8 @@ pub fn read_draft(alloc: Global, document: &Table) -> Result<MarketDraft, FileFa
     Ok(MarketDraft {
         points_per_bit,
         max_trades,
+        max_users,
+        max_transfers,
         draft: Draft { variables, zeros },
         cliques,
         links,

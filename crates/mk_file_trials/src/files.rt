@@ -314,6 +314,21 @@ const OF_GATE: &str = r#"points_per_bit -> points_per_bit => accepted
 250000, 750000, 0 -> 0, 1000001, 0 => refused market entry 1 1 2
 250000, 750000, 0 -> 0, 0, 1000001 => refused market entry 1 1 3"#;
 
+/// Edits of the last file: numbers that may be absent, and faults of two of them.
+const OF_NUMBERS: &str = r#"1000 -> 1000\nmax_users = 0 => refused market count max_users 0 0
+1000 -> 1000\nmax_users = 65537 => refused market count max_users 0 65537
+1000 -> 1000\nmax_users = -1 => refused market count max_users 0 -1
+1000 -> 1000\nmax_users = "300" => refused market type max_users 0
+1000 -> 1000\nmax_transfers = 0 => refused market count max_transfers 0 0
+1000 -> 1000\nmax_transfers = 1000001 => refused market count max_transfers 0 1000001
+1000 -> 1000\nmax_transfers = 5.0 => refused market type max_transfers 0
+max_trades = 1000 -> max_users = 300 => refused market missing max_trades 0
+trades = 1000 -> transfers = 0\nmax_users = 0\nmax_trades = 0 => refused market count max_trades 0 0
+1000 -> 1000\nmax_transfers = 0\nmax_users = 0 => refused market count max_users 0 0
+1000 -> 0\nmax_transfers = [5] => refused market type max_transfers 0
+1000 -> 1\nmax_users = 1\nmax_transfers = 1 => accepted
+1000 -> 1000\nmax_users = 65536\nmax_transfers = 1000000 => accepted"#;
+
 /// A file with some parts replaced, as `old -> new; old -> new`. What ends a line is written `\n`.
 fn edited(alloc: Global, base: &str, edits: &str) -> Result<String, Fail> {
     let edits = edits.replace(alloc, "\\n", "\n")?;
@@ -410,6 +425,7 @@ fn edited_files(rt: HostRuntime) -> Result<(), Fail> {
         (APART, OF_APART),
         (CUP, OF_CUP),
         (GATE, OF_GATE),
+        (GATE, OF_NUMBERS),
     ] {
         expect_each(&rt, rt.alloc(), base, cases)?;
     }
@@ -453,6 +469,7 @@ fn what_is_no_document(rt: HostRuntime) -> Result<(), Fail> {
 
 fn expect_chain(rt: &impl Abort, file: &MarketFile) {
     assert!(rt; (file.points_per_bit, file.max_trades) == (100, 77));
+    assert!(rt; (file.max_users, file.max_transfers) == (256, 65_536));
     expect_names(rt, &file.net);
     expect_cliques(rt, &file.tree);
 }

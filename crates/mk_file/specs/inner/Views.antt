@@ -22,6 +22,8 @@ abbrev pub draft_of : MarketDraft → DraftOfMarket
 draft_of d = record {
   points_per_bit = d.points_per_bit;
   max_trades = d.max_trades;
+  max_users = d.max_users;
+  max_transfers = d.max_transfers;
   variables = drafts_of d.draft;
   cliques = lists_of d.cliques;
   links = d.links.items;
