@@ -49,7 +49,7 @@ module _ (network : List Variable) (tree : GivenTree) where
         (ap (λ (fs : List Factor). map RowsOf (numbers_below (length network)) ++ fs) (factors_more (trades H) (record { user = user; ratio = ratio }))
         ∙ sym (append_assoc (map RowsOf (numbers_below (length network))) (factors_of (trades H)) (RatioOf ratio ∷ [])))
     weights_grow (Resolve pair) = ap₂ weights_with (trades_kept H (Resolve pair) refl) (resolutions_more H pair)
-    weights_grow Settle = weights_kept Settle refl refl
+    weights_grow (Settle payments) = weights_kept (Settle payments) refl refl
     weights_grow (Add addition) = weights_kept (Add addition) refl refl
 
     gains_kept : (u : ℕ) (e : Entry) → trade_in e ≡ None → resolution_in e ≡ None → gains_of network tree (H ++ e ∷ []) u ≡ gains_of network tree H u
@@ -74,7 +74,7 @@ module _ (network : List Variable) (tree : GivenTree) where
             ap₂ gains_with (trades_of_other H user ratio u d) (resolutions_kept H (Trade user ratio) refl)
             ∙ (rw (ne_eqb user u d) refl)
     gains_grow u (Resolve pair) = ap₂ gains_with (trades_of_kept H (Resolve pair) u refl) (resolutions_more H pair)
-    gains_grow u Settle = gains_kept u Settle refl refl
+    gains_grow u (Settle payments) = gains_kept u (Settle payments) refl refl
     gains_grow u (Add addition) = gains_kept u (Add addition) refl refl
 
     none_of : (n : ℕ) (ts : List UserTrade) → AllByRecursion (IsTradeOf network n) ts → filter (λ (t : UserTrade). eqb t.user n) ts ≡ []

@@ -65,7 +65,7 @@ module _ (network : List Variable) (tree : GivenTree) where
     rows_grow (Withdraw user bits) = ap rows_with (resolutions_kept H (Withdraw user bits) refl)
     rows_grow (Trade user ratio) = ap rows_with (resolutions_kept H (Trade user ratio) refl)
     rows_grow (Resolve pair) = ap rows_with (resolutions_more H pair)
-    rows_grow Settle = ap rows_with (resolutions_kept H Settle refl)
+    rows_grow (Settle payments) = ap rows_with (resolutions_kept H (Settle payments) refl)
     rows_grow (Add addition) = ap rows_with (resolutions_kept H (Add addition) refl)
 
   pub rows_open : rows_of network tree [] ≡ record { network = network; tree = tree; factors = map RowsOf (numbers_below (length network)); known = [] }

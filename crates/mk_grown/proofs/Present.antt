@@ -66,7 +66,7 @@ module _ (market : Market) (H : List Entry) where
   present_after (Withdraw u bits) = kept (Withdraw u bits) refl
   present_after (Trade u r) = kept (Trade u r) refl
   present_after (Resolve p) = kept (Resolve p) refl
-  present_after Settle = kept Settle refl
+  present_after (Settle payments) = kept (Settle payments) refl
 
 -- beside one network an addition leaves a history proper
 added_proper : (network : List Variable) (H : List Entry) (a : Addition) → IsProper network H
@@ -93,7 +93,7 @@ module _ (market : Market) (H : List Entry) where
   network_stays (Withdraw u bits) net fits = net
   network_stays (Trade u r) net fits = net
   network_stays (Resolve p) net fits = net
-  network_stays Settle net fits = net
+  network_stays (Settle payments) net fits = net
 
   pub proper_after : (e : Entry) → IsProper market.network H → IsInRange market.network H e
       → IsProper (with_entry e market).network (H ++ e ∷ [])
@@ -106,7 +106,7 @@ module _ (market : Market) (H : List Entry) where
       proper_next market.network H (Withdraw u bits) proper fits
   proper_after (Trade u r) proper fits = proper_next market.network H (Trade u r) proper fits
   proper_after (Resolve p) proper fits = proper_next market.network H (Resolve p) proper fits
-  proper_after Settle proper fits = proper_next market.network H Settle proper fits
+  proper_after (Settle payments) proper fits = proper_next market.network H (Settle payments) proper fits
 
   pub sound_after : (e : Entry) → IsProper market.network H → IsSound market.network H
       → IsNetwork market.network → IsAcceptable market.network H e → IsInRange market.network H e
@@ -124,7 +124,7 @@ module _ (market : Market) (H : List Entry) where
       sound_next market.network H (Trade u r) sound ok
   sound_after (Resolve p) proper sound net ok fits =
       sound_next market.network H (Resolve p) sound ok
-  sound_after Settle proper sound net ok fits = sound_next market.network H Settle sound ok
+  sound_after (Settle payments) proper sound net ok fits = sound_next market.network H (Settle payments) sound ok
 
 -- a history beside the network of a market
 Holds : (List Variable → List Entry → Type 0) → List Entry → Market → Type 0
