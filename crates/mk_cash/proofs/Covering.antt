@@ -9,7 +9,7 @@ use Rattle.std.proofs.Math.Nat.{lt_of_mul-lt-mul_right}
 use Rattle.mk_scaled.specs.Near.{IsNear, near_same, near_between, near_width}
 use Rattle.mk_scaled.specs.Range.{pow_le, pow-lt_reflects}
 use Rattle.mk_exact.specs.Factors.{Fraction}
-use Rattle.mk_exact.specs.Cash.{AreNearCash, CoversCash}
+use Rattle.mk_exact.specs.Cash.{AreNearCash, IsCashBetween, CoversCash}
 use Rattle.mk_exact.proofs.ExistNumbers.{greatest_power, exponent_at_most}
 use Rattle.mk_cash.specs.inner.Quotient.{IsLessNear}
 use Rattle.mk_cash.proofs.Nearness.{IsBetween, IsWide, near_above, near_below, exactly, low_near}
@@ -171,6 +171,67 @@ one_alone high steps few near = elim (cases_lt 1 high) [
 no_bits : (k : ℕ) → 2 ^ k ≤ 1 → k ≡ 0
 no_bits k h = let l : k ≤ 0 = exponent_at_most k 0 (rw (pow-zero 2) h) in omega arith
 
+-- ---- the interval
+
+module _ (q : Fraction) (b g p s lo hi grade l h : ℕ) (is : IsRaised q b g p s lo hi grade)
+    (bits : ArePowerBits lo hi b l h) (some : 1 ≤ lo)
+  where
+    -- the whole bits of the gain's power lie between those of both ends, and pay for what is owed
+    record AreGainBits (m : ℕ) : Type 0 where
+      weighed : IsWeighed (q.num ^ b) (q.den ^ b) (g ^ b) p s m
+      owed : s ≤ m + p
+      above : l ≤ m
+      below : m ≤ h
+
+    gain_bits : (m : ℕ) × AreGainBits m
+    gain_bits = by_bits (has_bits (g ^ b) (one-le-pow b g (le_trans some is.between.lower)))
+      where
+        by_bits : (m : ℕ) × (2 ^ m ≤ g ^ b) × (g ^ b < 2 ^ (m + 1)) → (m : ℕ) × AreGainBits m
+        by_bits m =
+            let w : IsWeighed (q.num ^ b) (q.den ^ b) (g ^ b) p s m.0 = record {
+              same = is.same;
+              positive = one-le-pow b q.den is.positive;
+              at_least_one =
+                  pow-le-pow_left is.at_least_one b;
+              below = m.1;
+              above = m.2;
+            } in
+            let x : l < m.0 + 1 = pow-lt_reflects l (m.0 + 1)
+            (lt_of_le_of_lt (le_trans bits.below (pow-le-pow_left is.between.lower b)) m.2) in
+            let y : m.0 < h + 1 = pow-lt_reflects m.0 (h + 1)
+            (lt_of_le_of_lt (le_trans m.1 (pow-le-pow_left is.between.upper b)) bits.above) in (
+              m.0,
+              record {
+                weighed = w;
+                owed = weighed_owed (q.num ^ b) (q.den ^ b) (g ^ b) p s m.0 w;
+                above = omega arith;
+                below = omega arith;
+              },
+            )
+
+    owed_at_most : s ≤ h + p
+    owed_at_most = let r = gain_bits.1.owed in let y = gain_bits.1.below in omega arith
+
+    -- the cash lies between the two ends, however wide they are
+    pub cash_between : (low high : ℕ) → low ≡ l + p - s → high ≡ h + p - s
+        → IsCashBetween q b low high
+    cash_between low high low_is high_is =
+        let m = gain_bits.0 in
+        let w = gain_bits.1.weighed in
+        let r = gain_bits.1.owed in
+        let x = gain_bits.1.above in
+        let y = gain_bits.1.below in
+        let f : m + p - s + s ≡ m + p = omega arith in
+        record {
+          cash = m + p - s;
+          is_cash = record {
+            covered = weighed_covered (q.num ^ b) (q.den ^ b) (g ^ b) p s m (m + p - s) w f;
+            greatest = weighed_greatest (q.num ^ b) (q.den ^ b) (g ^ b) p s m (m + p - s) w f;
+          };
+          above = omega arith;
+          below = omega arith;
+        }
+
 -- ---- the interval that is printed
 
 module _ (q : Fraction) (b g p s lo hi grade l h : ℕ) (is : IsRaised q b g p s lo hi grade)
@@ -203,58 +264,37 @@ module _ (q : Fraction) (b g p s lo hi grade l h : ℕ) (is : IsRaised q b g p s
             (omega arith) wide in
             omega arith
 
-    -- all bits are none where the lower end is at most one
-    none_at_one : (m : ℕ) → 2 ^ m ≤ g ^ b → lo ≤ 1 → (l ≡ 0) × (m ≡ 0) × (h ≡ 0)
-    none_at_one m at_least one =
+    -- both ends have no bits where the lower one is at most one
+    none_at_one : lo ≤ 1 → (l ≡ 0) × (h ≡ 0)
+    none_at_one one =
         let low : lo ≡ 1 = omega arith in
         let near : IsNear 1 hi grade = rw low at is.between.near in
         let above = one_alone hi grade (omega arith) near in
         let below = is.between.lower in
         let upper = is.between.upper in
         let high : hi ≡ 1 = omega arith in
-        let gain : g ≡ 1 = omega arith in
         let top : IsNear 1 (2 ^ h) (2 * b) = rw (high, one_power b) at bits.high_near in (
           no_bits l (rw (low, one_power b) at bits.below),
-          no_bits m
-              (rw (gain, one_power b) at at_least),
           no_bits h
               (one_alone (2 ^ h) (2 * b) (omega arith) top),
         )
 
     pub covers_cash : (small idle : Type 0) (low high : ℕ) → (small → lo ≡ hi) → (idle → lo ≤ 1)
         → low ≡ l + p - s → high ≡ h + p - s → CoversCash small idle q b low high
-    covers_cash small idle low high exact one low_is high_is = by_bits
-        (has_bits (g ^ b) (one-le-pow b g (le_trans some is.between.lower)))
-      where
-        by_bits : (m : ℕ) × (2 ^ m ≤ g ^ b) × (g ^ b < 2 ^ (m + 1))
-            → CoversCash small idle q b low high
-        by_bits m =
-            let w : IsWeighed (q.num ^ b) (q.den ^ b) (g ^ b) p s m.0 = record {
-              same = is.same;
-              positive = one-le-pow b q.den is.positive;
-              at_least_one =
-                  pow-le-pow_left is.at_least_one b;
-              below = m.1;
-              above = m.2;
-            } in
-            let r : s ≤ m.0 + p = weighed_owed (q.num ^ b) (q.den ^ b) (g ^ b) p s m.0 w in
-            let x : l < m.0 + 1 = pow-lt_reflects l (m.0 + 1)
-            (lt_of_le_of_lt (le_trans bits.below (pow-le-pow_left is.between.lower b)) m.2) in
-            let y : m.0 < h + 1 = pow-lt_reflects m.0 (h + 1)
-            (lt_of_le_of_lt (le_trans m.1 (pow-le-pow_left is.between.upper b)) bits.above) in
-            let f : m.0 + p - s + s ≡ m.0 + p = omega arith in
-            record {
-              cash = m.0 + p - s;
-              is_cash = record {
-                covered = weighed_covered (q.num ^ b) (q.den ^ b) (g ^ b) p s m.0 (m.0 + p - s) w f;
-                greatest = weighed_greatest (q.num ^ b) (q.den ^ b) (g ^ b) p s m.0 (m.0 + p - s) w f;
-              };
-              above = omega arith;
-              below = omega arith;
-              near = near_by (2 ^ 42) grade low high is.between
-                  (wide_graded (grade + 2) (omega arith)) (omega arith) (omega arith);
-              nearer = λ e. near_by (2 ^ 59) 0 low high (exactly g lo hi grade is.between (exact e))
-                  (wide_power 2 (omega arith)) (omega arith) (omega arith);
-              exact = λ e. let none = none_at_one m.0 m.1 (one e) in let a = none.0 in let c = none.1
-                  in let d = none.2 in (omega arith, omega arith);
-            }
+    covers_cash small idle low high exact one low_is high_is =
+        let between = cash_between q b g p s lo hi grade l h is bits some low high low_is high_is in
+        let above = between.above in
+        let below = between.below in
+        let owed : s ≤ h + p = owed_at_most q b g p s lo hi grade l h is bits some in
+        record {
+          cash = between.cash;
+          is_cash = between.is_cash;
+          above = above;
+          below = below;
+          near = near_by (2 ^ 42) grade low high is.between
+              (wide_graded (grade + 2) (omega arith)) (omega arith) (omega arith);
+          nearer = λ e. near_by (2 ^ 59) 0 low high (exactly g lo hi grade is.between (exact e))
+              (wide_power 2 (omega arith)) (omega arith) (omega arith);
+          exact = λ e. let none = none_at_one (one e) in let a = none.0 in let c = none.1
+              in (omega arith, omega arith);
+        }

@@ -3,3 +3,7 @@ pub mod Covering
 pub mod Ranges
 pub mod Quotients
 pub mod Losses
+pub mod ByRule
+pub mod Payments
+pub mod Sums
+pub mod Dues

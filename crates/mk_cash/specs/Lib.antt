@@ -1,3 +1,5 @@
 pub mod Factors
 pub mod Accounts
+pub mod Dues
+pub mod Laws
 pub mod inner

@@ -1,8 +1,9 @@
 //! The points that a factor is worth.
-ghost use Rattle.std.specs.Prelude.{◌≡◌, ◌+◌, ◌*◌, ◌^◌, ◌<◌, ◌≤◌};
+ghost use Rattle.std.specs.Prelude.{◌≡◌, ◌+◌, ◌-◌, ◌*◌, ◌^◌, ◌<◌, ◌≤◌};
 ghost use Rattle.mk_net.specs.Bounds.{max_points_per_bit, number_limit};
 ghost use Rattle.mk_exact.specs.Factors.{Fraction, IsAtLeastOne};
 ghost use Rattle.mk_exact.specs.Cash.{CoversCash};
+ghost use Rattle.mk_scaled.specs.ByRule.{rounded_down, rounded_up, power_by, whole_log};
 ghost use Rattle.mk_scaled.specs.Near.{IsNear};
 ghost use Rattle.mk_scaled.specs.Range.{IsInRange};
 ghost use Rattle.mk_enclose.specs.Enclosure.{lower_of, upper_of, Encloses, IsExact, IsGradedWithin};
@@ -25,6 +26,14 @@ pub fn cash(factor: &Factor, points_per_bit: u32) -> (u64, u64)
         → IsGradedWithin factor.now.gain (2 ^ 17) → IsAtLeastOne q
         → CoversCash (IsExact factor.now.gain) (Encloses factor.now.gain 1) q points_per_bit
         result.0 result.1 }
+    ensures low_rule { result.0 ≡
+        (whole_log (power_by rounded_down (lower_of factor.now.gain) points_per_bit)
+        + points_per_bit * paid_in factor.now.net)
+        - points_per_bit * (40 * factor.now.trades + taken_out factor.now.net) }
+    ensures high_rule { result.1 ≡
+        (whole_log (power_by rounded_up (upper_of factor.now.gain) points_per_bit)
+        + points_per_bit * paid_in factor.now.net)
+        - points_per_bit * (40 * factor.now.trades + taken_out factor.now.net) }
     ensures low_fits { result.0 < number_limit }
     ensures high_fits { result.1 < number_limit }
 {
@@ -46,6 +55,8 @@ fn power_bits(gain: &Enclosure, power: u32) -> (u64, u64)
     ensures above { upper_of gain.now ^ power < 2 ^ (result.1 + 1) }
     ensures low_near { IsLessNear (2 ^ (result.0 + 1)) (lower_of gain.now ^ power) (2 * power) }
     ensures high_near { IsNear (upper_of gain.now ^ power) (2 ^ result.1) (2 * power) }
+    ensures low_rule { result.0 ≡ whole_log (power_by rounded_down (lower_of gain.now) power) }
+    ensures high_rule { result.1 ≡ whole_log (power_by rounded_up (upper_of gain.now) power) }
     ensures low_small { result.0 < 2 ^ 52 }
     ensures high_small { result.1 < 2 ^ 52 }
 {
