@@ -21,11 +21,12 @@ use Rattle.mk_text.proofs.PartLaws.{EndsQuestion, EndsSeveral, name_reads, short
 use Rattle.mk_command.specs.Commands.{command_of, command_text, IsCommand, at_text}
 use Rattle.mk_command.specs.inner.Reading.{read_user, read_deposit, read_withdraw, read_price, read_limits, read_at, read_edit, held, read_bounds, read_spread, read_worst, read_resolve, forms, read_form}
 use Rattle.mk_command.specs.inner.Reading.{read_prices, read_position, read_short_addition}
-use Rattle.mk_command.specs.inner.Reading.{read_add, other_forms, read_other}
+use Rattle.mk_command.specs.inner.Reading.{read_paid, read_add, other_forms, read_other}
 use Rattle.mk_command.specs.declared.command.Command.{Command}
 use Rattle.mk_command.specs.declared.command.CommandRef.{CommandRef}
 use Rattle.mk_command.specs.declared.command.Command.TheVariants.{User, Deposit, Withdraw, Price, Limits, Edit, Bounds, Spread, Worst, Resolve, Settle, Bound}
 use Rattle.mk_command.specs.declared.command.Command.TheVariants.{Prices, Position, Status, Add}
+use Rattle.mk_command.specs.declared.command.Command.TheVariants.{Paid}
 
 abbrev OfCommand : List ℕ × Read Command → Type 0
 OfCommand = Spelled command_text IsCommand
@@ -170,6 +171,10 @@ worst_form : OfCommand (codes "worst ", read_worst)
 unfolding read_worst
 worst_form = spelled_by (codes "worst ") (λ user. Worst user) name_reads (λ user fits. (refl, fits))
 
+paid_form : OfCommand (codes "paid ", read_paid)
+unfolding read_paid
+paid_form = spelled_by (codes "paid ") (λ user. Paid user) name_reads (λ user fits. (refl, fits))
+
 resolve_form : OfCommand (codes "resolve ", read_resolve)
 unfolding read_resolve
 resolve_form = spelled_by (codes "resolve ") (λ pair. Resolve pair) pair_reads (λ pair fits. (refl, fits))
@@ -216,8 +221,10 @@ Takes read = (bytes : List ℕ) (c : Command) (rest : List ℕ) →
 
 other_takes : Takes read_other
 unfolding read_other
-other_takes = choose_takes command_text IsCommand other_forms nothing
-    (settle_form, (bound_form, (prices_form, (position_form, (status_form, (add_form, tt))))))
+other_takes = choose_takes command_text IsCommand other_forms nothing (
+  settle_form,
+  (bound_form, (paid_form, (prices_form, (position_form, (status_form, (add_form, tt)))))),
+)
     (nothing_takes command_text IsCommand)
 
 form_takes : Takes read_form
@@ -252,7 +259,7 @@ unfolding after
 ends_moves = record { follows = record { word = refl; ends = record { stopped = inr refl } }; missing = refl }
 
 form_last : (c : Command) → IsCommand c → read_form (command_text c) ≡ Some (c, [])
-unfolding read_form read_other read_prices read_position read_add read_user read_deposit
+unfolding read_form read_other read_paid read_prices read_position read_add read_user read_deposit
     read_withdraw read_price read_limits read_edit read_bounds read_spread read_worst read_resolve after
 form_last (User user) fits = made_last (λ user. User user) name_reads user fits refl
 form_last (Deposit user bits) fits = made_last (λ parts. Deposit (parts.0) (parts.1)) user_and_bits (user, bits) fits refl
@@ -267,6 +274,7 @@ form_last (Spread user variable condition to at) fits =
     made_last (λ parts. Spread (parts.0) (parts.1.0) (held (parts.1.1.0)) (held (parts.1.1.1.0)) (parts.1.1.1.1)) spread_parts
     (user, (variable, (condition.items, (to.items, at)))) (fits.0, (fits.1, (fits.2, (fits.3, fits.4)))) ends_moves
 form_last (Worst user) fits = made_last (λ user. Worst user) name_reads user fits refl
+form_last (Paid user) fits = made_last (λ user. Paid user) name_reads user fits refl
 form_last (Resolve pair) fits = made_last (λ pair. Resolve pair) pair_reads pair fits refl
 form_last Settle fits = refl
 form_last Bound fits = refl

@@ -11,6 +11,7 @@ use Rattle.mk_command.specs.Commands.{command_text, IsCommand, at_text}
 use Rattle.mk_command.specs.declared.command.Command.{Command}
 use Rattle.mk_command.specs.declared.command.Command.TheVariants.{User, Deposit, Withdraw, Price, Limits, Edit, Bounds, Spread, Worst, Resolve, Settle, Bound}
 use Rattle.mk_command.specs.declared.command.Command.TheVariants.{Prices, Position, Status, Add}
+use Rattle.mk_command.specs.declared.command.Command.TheVariants.{Paid}
 
 at_length : (at : Option ℕ) → IfSome at IsShort → length (at_text at) ≤ 13
 at_length None fits = omega arith
@@ -59,6 +60,7 @@ own_length (Spread user variable condition to at) fits =
     (omega arith) fits.0.short fits.1.short (condition_length condition.items fits.2)
     (omega (arith, length-append (codes " to ") (spaced decimal to.items ++ at_text at), length-append (spaced decimal to.items) (at_text at), shorts_length to.items fits.3, at_length at fits.4))
 own_length (Worst user) fits = simp length-append (omega (arith, fits.short))
+own_length (Paid user) fits = simp length-append (omega (arith, fits.short))
 own_length (Resolve pair) fits = simp length-append (omega (arith, pair_length pair fits))
 own_length Settle fits = omega arith
 own_length Bound fits = omega arith

@@ -10,6 +10,7 @@ use Rattle.mk_command.specs.declared.command.CommandRef.{CommandRef}
 use Rattle.mk_command.specs.declared.command.CommandRef.TheVariants as lent
 use Rattle.mk_command.specs.declared.command.Command.TheVariants.{User, Deposit, Withdraw, Price, Limits, Edit, Bounds, Spread, Worst, Resolve, Settle, Bound}
 use Rattle.mk_command.specs.declared.command.Command.TheVariants.{Prices, Position, Status, Add}
+use Rattle.mk_command.specs.declared.command.Command.TheVariants.{Paid}
 
 -- the command whose words are lent
 unfoldable pub command_of : CommandRef → Command
@@ -22,6 +23,7 @@ command_of (lent.Edit user question to at) = Edit user question.now to at
 command_of (lent.Bounds user variable condition) = Bounds user variable condition.now
 command_of (lent.Spread user variable condition to at) = Spread user variable condition.now to.now at
 command_of (lent.Worst user) = Worst user
+command_of (lent.Paid user) = Paid user
 command_of (lent.Resolve pair) = Resolve pair
 command_of lent.Settle = Settle
 command_of lent.Bound = Bound
@@ -45,6 +47,7 @@ command_text (Bounds user variable condition) = codes "bounds " & user & codes "
 command_text (Spread user variable condition to at) =
     codes "spread " & user & codes " " & variable & condition_text condition.items & codes " to " & spaced decimal to.items & at_text at
 command_text (Worst user) = codes "worst " & user
+command_text (Paid user) = codes "paid " & user
 command_text (Resolve pair) = codes "resolve " & pair_text pair
 command_text Settle = codes "settle"
 command_text Bound = codes "bound"
@@ -68,6 +71,7 @@ IsCommand (Bounds user variable condition) = IsName user × IsName variable × I
 IsCommand (Spread user variable condition to at) =
     IsName user × IsName variable × IsCondition condition.items × AreSeveral IsShort to.items × IfSome at IsShort
 IsCommand (Worst user) = IsName user
+IsCommand (Paid user) = IsName user
 IsCommand (Resolve pair) = IsPairText pair
 IsCommand Settle = ⊤
 IsCommand Bound = ⊤
@@ -89,6 +93,7 @@ HasShortNumbers (Edit user question to at) = IsShort to × IfSome at IsShort
 HasShortNumbers (Bounds user variable condition) = ⊤
 HasShortNumbers (Spread user variable condition to at) = AreSeveral IsShort to.items × IfSome at IsShort
 HasShortNumbers (Worst user) = ⊤
+HasShortNumbers (Paid user) = ⊤
 HasShortNumbers (Resolve pair) = ⊤
 HasShortNumbers Settle = ⊤
 HasShortNumbers Bound = ⊤

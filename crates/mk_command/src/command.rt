@@ -61,6 +61,10 @@ pub enum Command {
     Worst {
         user: Name,
     },
+    /// `paid U`: what is U paid, where the market is settled?
+    Paid {
+        user: Name,
+    },
     /// `resolve V=v`: V turned out as v.
     Resolve {
         pair: PairText,
@@ -82,8 +86,8 @@ pub enum Command {
     },
     /// `status`: how far is the market, and how full?
     Status,
-    /// `add V=v.. : ROWS in C.. to K`, perhaps with parents: the question V is added, and its clique
-    /// C is linked to clique K.
+    /// `add V=v.. : ROWS in C.. to K`, perhaps with parents: the question V is added, and its
+    /// clique C is linked to clique K.
     Add {
         addition: AddText,
     },
@@ -151,6 +155,10 @@ pub enum CommandRef<'a> {
     Worst {
         user: Name,
     },
+    /// `paid U`.
+    Paid {
+        user: Name,
+    },
     /// `resolve V=v`.
     Resolve {
         pair: PairText,
@@ -213,6 +221,7 @@ impl Command {
                 at: *at,
             },
             Command::Worst { user } => CommandRef::Worst { user: *user },
+            Command::Paid { user } => CommandRef::Paid { user: *user },
             Command::Resolve { pair } => CommandRef::Resolve { pair: *pair },
             Command::Settle => CommandRef::Settle,
             Command::Bound => CommandRef::Bound,

@@ -3,7 +3,7 @@
 ghost use Rattle.std.specs.Prelude.{◌≡◌, ◌≤◌, ◌<◌, ◌+◌, ◌^◌, ◌++◌, length, codes, decimal, IfSome};
 ghost use Rattle.arrayvec.specs.ArrayString.{array_string_len};
 ghost use Rattle.mk_text.specs.Numbers.{IsShort};
-ghost use Rattle.mk_text.specs.Joined.{spaced, AreSeveral};
+ghost use Rattle.mk_text.specs.Joined.{◌&◌, spaced, AreSeveral};
 ghost use Rattle.mk_text.specs.Texts.{condition_text, question_text};
 ghost use Rattle.mk_command.specs.Commands.{HasShortNumbers, command_text, at_text};
 ghost use Rattle.mk_command.specs.inner.Kinds.{IsOfValues};
@@ -24,14 +24,8 @@ pub fn print_command(command: &Command, out: &mut ArrayString<1024>)
     out.clear();
     match command {
         Command::User { user } => put_user(out, "user ", user),
-        Command::Deposit { user, bits } => {
-            put_user(out, "deposit ", user);
-            put_bits(out, *bits);
-        }
-        Command::Withdraw { user, bits } => {
-            put_user(out, "withdraw ", user);
-            put_bits(out, *bits);
-        }
+        Command::Deposit { user, bits } => put_transfer(out, "deposit ", user, *bits),
+        Command::Withdraw { user, bits } => put_transfer(out, "withdraw ", user, *bits),
         Command::Price { question } => {
             out.push_str("price ");
             put_question(out, question);
@@ -51,6 +45,7 @@ pub fn print_command(command: &Command, out: &mut ArrayString<1024>)
             put_move(out, *to, *at);
         }
         Command::Worst { user } => put_user(out, "worst ", user),
+        Command::Paid { user } => put_user(out, "paid ", user),
         Command::Resolve { pair } => {
             out.push_str("resolve ");
             put_pair(out, pair);
@@ -119,12 +114,12 @@ fn put_user(out: &mut ArrayString<1024>, word: &str, user: &Name)
     put_name(out, user);
 }
 
-fn put_bits(out: &mut ArrayString<1024>, bits: u32)
+fn put_transfer(out: &mut ArrayString<1024>, word: &str, user: &Name, bits: u32)
     requires short { IsShort bits }
-    requires room { array_string_len out.old + 10 ≤ 1024 }
-    ensures text { out.new.bytes ≡ out.old.bytes ++ (codes " " ++ decimal bits) }
-    ensures growth { array_string_len out.new ≤ array_string_len out.old + 10 }
+    requires room { array_string_len out.old + length word.now + 42 ≤ 1024 }
+    ensures { out.new.bytes ≡ out.old.bytes ++ (word.now & user.now & codes " " & decimal bits) }
 {
+    put_user(out, word, user);
     out.push_str(" ");
     put_short(out, bits);
 }

@@ -5,7 +5,7 @@ ghost use Rattle.mk_text.specs.Reading.{Finds, read_short};
 ghost use Rattle.mk_command.specs.Commands.{IsCommand, command_of, command_text};
 ghost use Rattle.mk_command.specs.inner.Reading.{read_user, read_deposit, read_withdraw};
 ghost use Rattle.mk_command.specs.inner.Reading.{read_price, read_limits, read_edit, read_at};
-ghost use Rattle.mk_command.specs.inner.Reading.{read_bounds, read_spread, read_worst};
+ghost use Rattle.mk_command.specs.inner.Reading.{read_bounds, read_spread, read_worst, read_paid};
 ghost use Rattle.mk_command.specs.inner.Reading.{read_resolve, read_prices, read_position};
 ghost use Rattle.mk_command.specs.inner.Reading.{read_add, read_other, read_form};
 ghost use Rattle.mk_command.specs.declared.command.Command.{Command};
@@ -82,6 +82,9 @@ fn other<'a>(reader: &mut Reader, words: &'a mut Words) -> Option<CommandRef<'a>
     }
     if reader.skip(b"bound") {
         return Some(CommandRef::Bound);
+    }
+    if reader.skip(b"paid ") {
+        return paid(reader);
     }
     if reader.skip(b"prices ") {
         return prices(reader, words);
@@ -229,6 +232,15 @@ fn worst<'a>(reader: &mut Reader) -> Option<CommandRef<'a>>
 {
     let user = reader.name()?;
     Some(CommandRef::Worst { user })
+}
+
+#[inline(never)]
+#[tactic(auto, unfolding(crate::specs::inner::Reading::read_paid, crate::specs::Commands::command_of))]
+fn paid<'a>(reader: &mut Reader) -> Option<CommandRef<'a>>
+    ensures { Finds (option_map command_of result) reader.new (read_paid reader.old) }
+{
+    let user = reader.name()?;
+    Some(CommandRef::Paid { user })
 }
 
 #[inline(never)]

@@ -15,11 +15,12 @@ use Rattle.mk_reply.specs.declared.payments.Payment.{Payment}
 use Rattle.mk_reply.specs.declared.reply.Reply.{Reply}
 use Rattle.mk_reply.specs.declared.reply.Reply.TheVariants.{Joined, Deposited, Withdrawn, Price, Limits, Traded, Bounded, Spreaded, Worst, Resolved, Settled, Bound, Refused}
 use Rattle.mk_reply.specs.declared.reply.Reply.TheVariants.{Prices, Position, Status, Added}
+use Rattle.mk_reply.specs.declared.reply.Reply.TheVariants.{Paid, SettledAll}
 use Rattle.mk_reply.specs.declared.refusal.Refusal.{Refusal}
 use Rattle.mk_reply.specs.declared.refusal.Refusal.TheVariants.{Syntax, Long, Settled as Over, User, Exists, Users, Unknown, Twice, Stale, Resolved as Known, Impossible, Wide, Range, Full, Beyond, Short, Unresolved, NoVariable, Numbers, Sum, Outside, Sure, Memory}
 use Rattle.mk_reply.specs.declared.refusal.Refusal.TheVariants.{Variables, Taken, ValueTwice}
 use Rattle.mk_reply.specs.declared.refusal.Refusal.TheVariants.{RowCount, RowWidth, Cells, Link}
-use Rattle.mk_reply.specs.declared.refusal.Refusal.TheVariants.{Uncovered, NotRunning}
+use Rattle.mk_reply.specs.declared.refusal.Refusal.TheVariants.{Uncovered, NotRunning, Unsettled}
 
 at_length : (at : ℕ) → IsLong at → length (at_text at) ≤ 23
 at_length at long = simp length-append (omega (arith, long_length at long))
@@ -62,9 +63,11 @@ refusal_length : (why : Refusal) → IsRefusal why → length (refusal_text why)
 refusal_length Syntax fits = omega arith
 refusal_length Long fits = omega arith
 refusal_length Over fits = omega arith
+refusal_length Unsettled fits = omega arith
 refusal_length (User user) fits = simp length-append (omega (arith, fits.short))
 refusal_length (Exists user) fits = simp length-append (omega (arith, fits.short))
-refusal_length (Users held) fits = simp length-append (omega (arith, narrow_length held (omega (arith, fits))))
+refusal_length (Users held) fits =
+    simp length-append (omega (arith, narrow_length held (omega (arith, fits.most))))
 refusal_length (Unknown pair) fits = simp length-append (omega (arith, pair_length pair fits))
 refusal_length (Twice variable) fits = simp length-append (omega (arith, fits.short))
 refusal_length (Stale named now) fits = simp length-append (omega (arith, narrow_length named fits.0, long_length now fits.1))
@@ -146,6 +149,8 @@ reply_length (Spreaded factors at) fits =
     let both = two_lengths (spaced decimal factors.items) (at_text at) 319 23 (ratios_length factors.items fits.0) (at_length at fits.1) in
     omega (arith, length-append (codes "spread ") (spaced decimal factors.items ++ at_text at), both)
 reply_length (Worst low high) fits = simp length-append (omega (arith, long_length low fits.0, long_length high fits.1))
+reply_length (Paid payment) fits =
+    omega (arith, length-append (codes "paid ") (payment_text payment), payment_length payment fits)
 reply_length (Bound low high) fits = simp length-append (omega (arith, long_length low fits.0, long_length high fits.1))
 reply_length (Resolved pair at) fits =
     simp length-append (omega (arith, pair_length pair fits.0, long_length at fits.1))
@@ -153,6 +158,9 @@ reply_length (Settled at payments) fits =
     let list = items_length (codes ", ") payment_text IsPayment 100 payment_length payments fits.1.each in
     let both = two_lengths (at_text at) (items_text (codes ", ") payment_text payments) 23 25600 (at_length at fits.0) (omega (arith, list, fits.1.few)) in
     omega (arith, length-append (codes "settle") (at_text at ++ items_text (codes ", ") payment_text payments), both)
+reply_length (SettledAll at users total) fits =
+    let paid = narrow_length users (omega (arith, fits.1.most)) in
+    simp length-append (omega (arith, long_length at fits.0, paid, long_length total fits.2))
 reply_length (Prices intervals) fits =
     let list = several_length prices_text ArePrices 62 prices_length intervals.items fits in
     omega (arith, length-append (codes "prices ") (spaced prices_text intervals.items), list)

@@ -1,24 +1,26 @@
 -- Each refusal is read from its text, and from no other.
 use Rattle.std.specs.Prelude.{◌≡◌, ℕ, ◌^◌, List, [], ◌++◌, codes, decimal, Option, Some, None, ◌==◌}
+use Rattle.std.specs.Prelude.{◌&&◌, nat_le, true}
 use Rattle.arrayvec.specs.ArrayVec.{ArrayVec}
 use Rattle.std.proofs.Common.{refl, sym, ap, subst, lit≤, arith, append-nil, inr}
-use Rattle.std.proofs.lemmas.Bool.{eqb-true, eq-eqb}
+use Rattle.std.proofs.lemmas.Bool.{eqb-true, eq-eqb, leb-true, le-leb}
 use Rattle.mk_text.specs.Numbers.{IsShort, IsLong, IsNarrow}
 use Rattle.mk_text.specs.Words.{after, EndsWord}
 use Rattle.mk_text.specs.Reading.{Read, both, behind, made, given, nothing, read_short}
 use Rattle.mk_text.proofs.ReadingLaws.{Took, Reads, Spelled, BothFit, both_text, behind_text, both_reads, behind_reads, passed_reads, reads_same, spelled_by, spelled_alone, choose_takes, nothing_takes, made_last}
 use Rattle.mk_text.proofs.PartLaws.{EndsSeveral, name_reads, number_reads, short_reads, pair_reads, limits_reads, intervals_reads}
-use Rattle.mk_net.specs.Bounds.{max_users}
+use Rattle.mk_text.proofs.WordLemmas.{both_true}
+use Rattle.mk_net.specs.Bounds.{max_users, max_variables}
 use Rattle.mk_text.specs.Numbers.{AreIntervals, intervals_text}
-use Rattle.mk_reply.specs.Refusals.{refusal_text, given_in, IsRefusal}
-use Rattle.mk_reply.specs.Reading.{read_width, not_added_forms, miscounted_forms}
+use Rattle.mk_reply.specs.Refusals.{refusal_text, given_in, IsUsersLimit, IsRefusal}
+use Rattle.mk_reply.specs.Reading.{read_users_limit, read_width, not_added_forms, miscounted_forms}
 use Rattle.mk_reply.specs.Reading.{read_not_added, read_miscounted}
 use Rattle.mk_reply.specs.Reading.{read_long, read_narrow, read_held, read_stale, plain_forms, named_forms, paired_forms, numbered_forms, spread_out_forms, boxed, read_spread_out, read_numbered, read_paired, read_named, read_refusal}
 use Rattle.mk_reply.specs.declared.refusal.Refusal.{Refusal}
 use Rattle.mk_reply.specs.declared.refusal.Refusal.TheVariants.{Syntax, Long, Settled, User, Exists, Users, Unknown, Twice, Stale, Resolved, Impossible, Wide, Range, Full, Beyond, Short, Unresolved, NoVariable, Numbers, Sum, Outside, Sure, Memory}
 use Rattle.mk_reply.specs.declared.refusal.Refusal.TheVariants.{Variables, Taken, ValueTwice}
 use Rattle.mk_reply.specs.declared.refusal.Refusal.TheVariants.{RowCount, RowWidth, Cells, Link}
-use Rattle.mk_reply.specs.declared.refusal.Refusal.TheVariants.{Uncovered, NotRunning}
+use Rattle.mk_reply.specs.declared.refusal.Refusal.TheVariants.{Uncovered, NotRunning, Unsettled}
 
 pub long_reads : Reads read_long decimal IsLong EndsWord
 unfolding read_long
@@ -28,16 +30,29 @@ pub narrow_reads : Reads read_narrow decimal IsNarrow EndsWord
 unfolding read_narrow
 narrow_reads = number_reads (2 ^ 32) (lit≤ tt)
 
-held_is_narrow : (n : ℕ) → n ≡ max_users → IsNarrow n
+limit_passed : (n : ℕ) → nat_le 1 n && nat_le n max_users ≡ true → IsUsersLimit n
+limit_passed n passes =
+    let parts = both_true (nat_le 1 n) (nat_le n max_users) passes in
+    record { positive = leb-true 1 n (parts.0); most = leb-true n max_users (parts.1) }
+
+limit_passes : (n : ℕ) → IsUsersLimit n → nat_le 1 n && nat_le n max_users ≡ true
+limit_passes n fits = rw (le-leb 1 n (fits.positive), le-leb n max_users (fits.most)) refl
+
+users_limit_reads : Reads read_users_limit decimal IsUsersLimit EndsWord
+unfolding read_users_limit
+users_limit_reads = reads_same (passed_reads (λ n. nat_le 1 n && nat_le n max_users) narrow_reads)
+    (λ n fits. limit_passed n (fits.1)) (λ n fits. (omega (arith, fits.most), limit_passes n fits))
+
+held_is_narrow : (n : ℕ) → n ≡ max_variables → IsNarrow n
 held_is_narrow n same = omega (arith, same)
 
 abbrev IsHeld : ℕ → Type 0
-IsHeld held = held ≡ max_users
+IsHeld held = held ≡ max_variables
 
 held_reads : Reads read_held decimal IsHeld EndsWord
 unfolding read_held
-held_reads = reads_same (passed_reads (λ n. n == max_users) narrow_reads) (λ n fits. eqb-true n max_users (fits.1))
-    (λ n same. (held_is_narrow n same, eq-eqb n max_users same))
+held_reads = reads_same (passed_reads (λ n. n == max_variables) narrow_reads) (λ n fits. eqb-true n max_variables (fits.1))
+    (λ n same. (held_is_narrow n same, eq-eqb n max_variables same))
 
 abbrev stale_text : ℕ × ℕ → List ℕ
 stale_text = both_text decimal (behind_text (codes " ") decimal)
@@ -132,7 +147,7 @@ spread_out_takes = choose_takes refusal_text IsRefusal spread_out_forms read_not
 numbered_takes : Takes read_numbered
 unfolding read_numbered
 numbered_takes = choose_takes refusal_text IsRefusal numbered_forms read_spread_out (
-  spelled_by (codes "users ") (λ held. Users held) held_reads (λ held fits. (refl, fits)),
+  spelled_by (codes "users ") (λ held. Users held) users_limit_reads (λ held fits. (refl, fits)),
   (
     stale_form,
     (
@@ -186,8 +201,8 @@ refusal_takes = choose_takes refusal_text IsRefusal plain_forms read_named (
     (
       alone (codes "settled") Settled refl tt,
       (
-        alone (codes "wide") Wide refl tt,
-        (alone (codes "memory") Memory refl tt, tt),
+        alone (codes "unsettled") Unsettled refl tt,
+        (alone (codes "wide") Wide refl tt, (alone (codes "memory") Memory refl tt, tt)),
       ),
     ),
   ),
@@ -203,9 +218,10 @@ unfolding read_refusal read_named read_paired read_numbered read_spread_out read
 refusal_last Syntax fits = refl
 refusal_last Long fits = refl
 refusal_last Settled fits = refl
+refusal_last Unsettled fits = refl
 refusal_last (User user) fits = made_last (λ user. User user) name_reads user fits refl
 refusal_last (Exists user) fits = made_last (λ user. Exists user) name_reads user fits refl
-refusal_last (Users held) fits = made_last (λ held. Users held) held_reads held fits refl
+refusal_last (Users held) fits = made_last (λ held. Users held) users_limit_reads held fits refl
 refusal_last (Unknown pair) fits = made_last (λ pair. Unknown pair) pair_reads pair fits refl
 refusal_last (Twice variable) fits = made_last (λ variable. Twice variable) name_reads variable fits refl
 refusal_last (Stale named now) fits = made_last (λ parts. Stale (parts.0) (parts.1)) stale_parts (named, now) fits refl

@@ -1,21 +1,26 @@
 -- Each reply is read from its text, and from no other.
 use Rattle.std.specs.Prelude.{◌≡◌, ◌≢◌, ℕ, ◌^◌, List, [], ◌∷◌, ◌++◌, codes, decimal, length, Option, Some, None, true, false, ◌==◌, IfOk, IfErr, MatchResult, Result, Ok, Err}
-use Rattle.std.proofs.Common.{refl, sym, ap, ◌∙◌, subst, arith, lit≤, inl}
-use Rattle.std.proofs.lemmas.Option.{none-some, same_Some}
-use Rattle.std.proofs.lemmas.Bool.{eqb-true, eq-eqb}
+use Rattle.std.specs.Prelude.{◌&&◌, nat_lt, nat_le}
+use Rattle.std.proofs.Common.{refl, sym, ap, ◌∙◌, subst, arith, lit≤, inl, append_assoc}
+use Rattle.std.proofs.lemmas.Option.{none-some, same_Some, option_and_then_some}
+use Rattle.std.proofs.lemmas.Bool.{eqb-true, eq-eqb, ltb-true, lt-ltb, leb-true, le-leb}
+use Rattle.mk_net.specs.Bounds.{max_users, max_payments}
 use Rattle.mk_net.specs.Name.{IsName}
 use Rattle.mk_text.specs.Joined.{items_text, spaced, AreSeveral}
 use Rattle.mk_text.specs.Numbers.{IsLong, IsNarrow, IsPrice, price_text, AreIntervals, intervals_text}
 use Rattle.mk_text.specs.Words.{after, EndsWord}
 use Rattle.mk_text.specs.Reading.{Finds, Read, both, behind, made, nothing, read_name, read_price, read_range, read_units, read_several, read_intervals}
 use Rattle.mk_text.proofs.ReadingLaws.{Took, Reads, Tells, Spelled, IsMade, BothFit, both_text, behind_text, both_reads, behind_reads, passed_reads, made_reads, reads_same, AreItems, EndsList, list_reads, spelled_by, choose_takes, nothing_takes, made_last, whole_one, whole_found, whole_nothing, whole_left}
-use Rattle.mk_text.proofs.WordLemmas.{after_begins}
+use Rattle.mk_text.specs.Reading.{either}
+use Rattle.mk_text.proofs.ReadingLaws.{either_cases, either_here, either_else}
+use Rattle.mk_text.proofs.WordLemmas.{after_begins, both_true}
 use Rattle.mk_text.proofs.PartLaws.{EndsSeveral, name_reads, pair_reads, limits_reads, price_reads, range_reads, units_reads, several_reads, number_goes_on, intervals_reads, both_ends, AreBelow}
 use Rattle.mk_reply.specs.Replies.{reply_text, at_text, payment_text, IsRatio, IsPayment, IsReply}
-use Rattle.mk_reply.specs.Replies.{IsUnread, BeginsWithRevision, BeginsSettlement}
+use Rattle.mk_reply.specs.Replies.{IsManyUsers, IsUnread, BeginsWithRevision, BeginsSettlement}
 use Rattle.mk_reply.specs.Reading.{read_long, dated, boxed, read_joined, read_moved, read_prices, read_limited, read_traded, read_bounded, read_spreaded, read_worst, read_bound, read_resolved, read_payment, read_payments, read_settled, read_refusal, other_forms, read_other, read_form}
 use Rattle.mk_reply.specs.Reading.{read_all_prices, read_position, read_status, status_of}
-use Rattle.mk_reply.specs.Reading.{read_added}
+use Rattle.mk_reply.specs.Reading.{read_added, read_paid, read_many_users}
+use Rattle.mk_reply.specs.Reading.{read_settled_all, read_listed}
 use Rattle.mk_reply.specs.Reading.{later_forms, read_later}
 use Rattle.mk_text.proofs.SpanLaws.{all_prices_reads, all_ends_reads}
 use Rattle.mk_reply.proofs.ToldLaws.{all_prices_form, position_form, status_form}
@@ -25,6 +30,7 @@ use Rattle.mk_reply.specs.declared.payments.Payment.{Payment}
 use Rattle.mk_reply.specs.declared.reply.Reply.{Reply}
 use Rattle.mk_reply.specs.declared.reply.Reply.TheVariants.{Joined, Deposited, Withdrawn, Price, Limits, Traded, Bounded, Spreaded, Worst, Resolved, Settled, Bound, Refused}
 use Rattle.mk_reply.specs.declared.reply.Reply.TheVariants.{Prices, Position, Status, Added}
+use Rattle.mk_reply.specs.declared.reply.Reply.TheVariants.{Paid, SettledAll}
 use Rattle.mk_reply.specs.declared.unread.Unread.{Unread}
 use Rattle.mk_reply.specs.declared.unread.Unread.TheVariants.{Syntax, Memory}
 
@@ -133,15 +139,46 @@ payments_reads : Reads read_payments (items_text (codes ", ") payment_text) (Are
 unfolding read_payments
 payments_reads = list_reads payment_reads (codes ", ") 256 (λ rest. refl)
 
-before_payments : (payments : List Payment) (rest : List ℕ) → EndsWord rest → EndsWord (items_text (codes ", ") payment_text payments ++ rest)
-before_payments [] rest ends = ends
-before_payments (p ∷ payments) rest ends = refl
+-- how many users are paid, and how much together
+many_passed : (n : ℕ) → nat_lt max_payments n && nat_le n max_users ≡ true → IsManyUsers n
+many_passed n passes =
+    let parts = both_true (nat_lt max_payments n) (nat_le n max_users) passes in
+    record { many = ltb-true max_payments n (parts.0); most = leb-true n max_users (parts.1) }
 
-abbrev settled_text : ℕ × List Payment → List ℕ
-settled_text = both_text at_text (items_text (codes ", ") payment_text)
+many_passes : (n : ℕ) → IsManyUsers n → nat_lt max_payments n && nat_le n max_users ≡ true
+many_passes n fits = rw (lt-ltb max_payments n (fits.many), le-leb n max_users (fits.most)) refl
 
-settled_parts : Reads (both (behind (codes " at ") read_long) read_payments) settled_text (BothFit IsLong (AreItems IsPayment 256)) (EndsList EndsWord (codes ", "))
-settled_parts = both_reads at_reads payments_reads (λ payments rest fits ends. before_payments payments rest (ends.follows))
+many_users_reads : Reads read_many_users decimal IsManyUsers EndsWord
+unfolding read_many_users
+many_users_reads =
+    reads_same (passed_reads (λ n. nat_lt max_payments n && nat_le n max_users) narrow_reads)
+    (λ n fits. many_passed n (fits.1))
+    (λ n fits. (omega (arith, fits.most), many_passes n fits))
+
+abbrev all_paid_text : ℕ × ℕ → List ℕ
+all_paid_text = both_text decimal (behind_text (codes " paid ") decimal)
+
+all_paid_parts : Reads (both read_many_users (behind (codes " paid ") read_long)) all_paid_text
+    (BothFit IsManyUsers IsLong) EndsWord
+all_paid_parts =
+    let total_reads = behind_reads (codes " paid ") long_reads in
+    both_reads many_users_reads total_reads (λ total rest fits ends. refl)
+
+abbrev listed_text : List Payment → List ℕ
+listed_text payments = items_text (codes ", ") payment_text payments
+
+before_payments : (payments : List Payment) → EndsWord (listed_text payments)
+before_payments [] = refl
+before_payments (p ∷ payments) = refl
+
+ends_payments : EndsList EndsWord (codes ", ") []
+unfolding after
+ends_payments = record { follows = refl; missing = refl }
+
+no_users : (payments : List Payment) → after (codes " users ") (listed_text payments) ≡ None
+unfolding after
+no_users [] = refl
+no_users (p ∷ payments) = refl
 
 joined_form : OfReply (codes "user ", read_joined)
 unfolding read_joined
@@ -182,10 +219,90 @@ resolved_form : OfReply (codes "resolve ", read_resolved)
 unfolding read_resolved
 resolved_form = spelled_by (codes "resolve ") (λ parts. Resolved (parts.0) (parts.1)) (dated_reads pair_reads) (λ parts fits. (refl, fits))
 
+paid_form : OfReply (codes "paid ", read_paid)
+unfolding read_paid
+paid_form = spelled_by (codes "paid ") (λ payment. Paid payment) payment_reads
+    (λ payment fits. (refl, fits))
+
+-- a settlement: its word and a revision, and behind these how many users are paid, or what each is
+abbrev settle_text : ℕ → List ℕ
+settle_text at = codes "settle" ++ at_text at
+
+settled_all_form : (at : ℕ) → IsLong at →
+    OfReply (settle_text at ++ codes " users ", read_settled_all at)
+unfolding read_settled_all
+settled_all_form at long = spelled_by (settle_text at ++ codes " users ")
+    (λ parts. SettledAll at (parts.0) (parts.1)) all_paid_parts
+    (λ parts fits. (simp append_assoc, (long, fits.0, fits.1)))
+
+listed_form : (at : ℕ) → IsLong at → OfReply (settle_text at, read_listed at)
+listed_form at long = spelled_by (settle_text at) (λ payments. Settled at payments) payments_reads
+    (λ payments fits. (simp append_assoc, (long, record { few = fits.few; each = fits.each })))
+
+all_apart : (word at users more : List ℕ) →
+    word ++ (at ++ (users ++ more)) ≡ ((word ++ at) ++ users) ++ more
+all_apart word at users more = simp append_assoc
+
+-- bytes behind a front in place of the whole
+took_behind : (front bytes left : List ℕ) (r : Reply) (rest : List ℕ) → bytes ≡ left →
+    Took reply_text IsReply (front ++ left) r rest → Took reply_text IsReply (front ++ bytes) r rest
+took_behind front bytes left r rest same took = record {
+  begins = ap (λ (behind : List ℕ). front ++ behind) same ∙ took.begins;
+  fits = took.fits;
+}
+
 settled_form : OfReply (codes "settle", read_settled)
 unfolding read_settled
-settled_form = spelled_by (codes "settle") (λ parts. Settled (parts.0) (parts.1)) settled_parts
-    (λ parts fits. (refl, (fits.0, record { few = fits.1.few; each = fits.1.each })))
+settled_form = record {
+  takes = λ left r rest e.
+      option_and_then_some _ (behind (codes " at ") read_long left) (r, rest) e (λ at was e1.
+      let dated = at_reads.takes left (at.0) (at.1) was in
+      let long : IsLong (at.0) = dated.fits in
+      let all = read_settled_all (at.0) in
+      either_cases (codes " users ") all (read_listed (at.0)) (at.1) (Some (r, rest)) _ e1
+      (λ more begins e2.
+      let took = (settled_all_form (at.0) long).takes more r rest e2 in
+      took_behind (codes "settle") left (at_text (at.0) ++ (codes " users " ++ more)) r rest
+      (dated.begins ∙ ap (λ (behind : List ℕ). at_text (at.0) ++ behind) begins)
+      (record {
+        begins = all_apart (codes "settle") (at_text (at.0)) (codes " users ") more ∙ took.begins;
+        fits = took.fits;
+      }))
+      (λ e2.
+      let took = (listed_form (at.0) long).takes (at.1) r rest e2 in
+      took_behind (codes "settle") left (at_text (at.0) ++ at.1) r rest (dated.begins)
+      (record {
+        begins = sym (append_assoc (codes "settle") (at_text (at.0)) (at.1)) ∙ took.begins;
+        fits = took.fits;
+      })));
+}
+
+-- what is read behind the word of a settlement
+settled_behind : (at : ℕ) (rest : List ℕ) → IsLong at → EndsWord rest →
+    read_settled (at_text at ++ rest)
+    ≡ either (codes " users ") (read_settled_all at) (read_listed at) rest
+unfolding read_settled
+settled_behind at rest long ends = rw (at_reads.again at rest long ends) refl
+
+listed_last : (at : ℕ) (payments : List Payment) → IsLong at → AreItems IsPayment 256 payments →
+    read_settled (at_text at ++ listed_text payments) ≡ Some (Settled at payments, [])
+listed_last at payments long fits =
+    let text = listed_text payments in
+    settled_behind at text long (before_payments payments)
+    ∙ either_else (codes " users ") (read_settled_all at) (read_listed at) text (no_users payments)
+    ∙ made_last (λ payments. Settled at payments) payments_reads payments fits ends_payments
+
+all_last : (at users total : ℕ) → IsLong at → IsManyUsers users → IsLong total →
+    read_settled (at_text at ++ (codes " users " ++ all_paid_text (users, total)))
+    ≡ Some (SettledAll at users total, [])
+unfolding read_settled_all
+all_last at users total long many whole =
+    let text = all_paid_text (users, total) in
+    let last = made_last (λ parts. SettledAll at (parts.0) (parts.1)) all_paid_parts (users, total)
+    (many, whole) refl in
+    settled_behind at (codes " users " ++ text) long refl
+    ∙ either_here (codes " users ") (read_settled_all at) (read_listed at) text
+    ∙ last
 
 refused_form : OfReply (codes "refused ", made (λ why. Refused why) read_refusal)
 refused_form = spelled_by (codes "refused ") (λ why. Refused why) refusal_reads (λ why fits. (refl, fits))
@@ -202,7 +319,7 @@ Takes read = (bytes : List ℕ) (r : Reply) (rest : List ℕ) →
 later_takes : Takes read_later
 unfolding read_later
 later_takes = choose_takes reply_text IsReply later_forms nothing
-    (bound_form, (all_prices_form, (position_form, (status_form, (added_form, tt)))))
+    (bound_form, (paid_form, (all_prices_form, (position_form, (status_form, (added_form, tt))))))
     (nothing_takes reply_text IsReply)
 
 other_takes : Takes read_other
@@ -232,15 +349,11 @@ form_takes : (bytes : List ℕ) (r : Reply) (rest : List ℕ) → read_form byte
 unfolding read_form
 form_takes = choose_takes reply_text IsReply ((codes "settle", read_settled) ∷ []) read_other (settled_form, tt) other_takes
 
-ends_payments : EndsList EndsWord (codes ", ") []
-unfolding after
-ends_payments = record { follows = refl; missing = refl }
-
 form_last : (r : Reply) → IsReply r → read_form (reply_text r) ≡ Some (r, [])
 unfolding read_form read_other read_later read_all_prices read_position read_status read_added
     read_joined
     read_prices read_limited read_traded read_bounded read_spreaded read_worst read_bound
-    read_resolved read_settled after
+    read_resolved read_paid after
 form_last (Joined user at) fits = made_last (λ parts. Joined (parts.0) (parts.1)) (dated_reads name_reads) (user, at) fits refl
 form_last (Deposited user bits at) fits =
     made_last (λ parts. Deposited (parts.0) (parts.1.0) (parts.1.1)) moved_reads (user, (bits, at)) (fits.0, (fits.1, fits.2)) refl
@@ -255,8 +368,10 @@ form_last (Bounded (Some intervals) at) fits = made_last (λ parts. Bounded (box
 form_last (Spreaded factors at) fits = made_last (λ parts. Spreaded (record { items = parts.0 }) (parts.1)) spreaded_parts (factors.items, at) fits refl
 form_last (Worst low high) fits = made_last (λ range. Worst (range.0) (range.1)) ends_parts (low, high) fits refl
 form_last (Resolved pair at) fits = made_last (λ parts. Resolved (parts.0) (parts.1)) (dated_reads pair_reads) (pair, at) fits refl
-form_last (Settled at payments) fits = made_last (λ parts. Settled (parts.0) (parts.1)) settled_parts (at, payments)
-    (fits.0, record { few = fits.1.few; each = fits.1.each }) ends_payments
+form_last (Paid payment) fits = made_last (λ payment. Paid payment) payment_reads payment fits refl
+form_last (Settled at payments) fits =
+    listed_last at payments (fits.0) (record { few = fits.1.few; each = fits.1.each })
+form_last (SettledAll at users total) fits = all_last at users total (fits.0) (fits.1) (fits.2)
 form_last (Bound low high) fits = made_last (λ range. Bound (range.0) (range.1)) ends_parts (low, high) fits refl
 form_last (Prices intervals) fits =
     made_last (λ xs. Prices (record { items = xs })) all_prices_reads intervals.items fits ends_line

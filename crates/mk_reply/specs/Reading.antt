@@ -1,18 +1,19 @@
 -- Reading a reply: the word by which its form is known, and then the parts of that form.
 use Rattle.std.specs.Prelude.{ℕ, ◌^◌, List, [], ◌∷◌, codes, ◌==◌, Option, option_map}
+use Rattle.std.specs.Prelude.{◌&&◌, nat_le, nat_lt, option_and_then}
 use Rattle.arrayvec.specs.ArrayVec.{ArrayVec}
 use Rattle.mk_text.specs.Reading.{Read, both, behind, made, passed, given, never, items, choose, nothing, read_name, read_number, read_short, read_units, read_pair, read_price, read_range, read_limits, read_several, read_intervals}
-use Rattle.mk_text.specs.Reading.{read_two_prices, read_ends}
-use Rattle.mk_net.specs.Bounds.{max_users}
+use Rattle.mk_text.specs.Reading.{either, read_two_prices, read_ends}
+use Rattle.mk_net.specs.Bounds.{max_users, max_variables, max_payments}
 use Rattle.mk_reply.specs.declared.refusal.Refusal.{Refusal}
 use Rattle.mk_reply.specs.declared.refusal.Refusal.TheVariants.{Syntax, Long, Settled, User, Exists, Users, Unknown, Twice, Stale, Resolved, Impossible, Wide, Range, Full, Beyond, Short, Unresolved, NoVariable, Numbers, Sum, Outside, Sure, Memory}
 use Rattle.mk_reply.specs.declared.refusal.Refusal.TheVariants.{Variables, Taken, ValueTwice}
 use Rattle.mk_reply.specs.declared.refusal.Refusal.TheVariants.{RowCount, RowWidth, Cells, Link}
-use Rattle.mk_reply.specs.declared.refusal.Refusal.TheVariants.{Uncovered, NotRunning}
+use Rattle.mk_reply.specs.declared.refusal.Refusal.TheVariants.{Uncovered, NotRunning, Unsettled}
 use Rattle.mk_reply.specs.declared.payments.Payment.{Payment}
 use Rattle.mk_reply.specs.declared.reply.Reply.{Reply}
-use Rattle.mk_reply.specs.declared.reply.Reply.TheVariants.{Joined, Deposited, Withdrawn, Price, Limits as Limited, Traded, Bounded, Spreaded, Worst, Resolved as ResolvedPair, Settled as AllSettled, Bound, Refused}
-use Rattle.mk_reply.specs.declared.reply.Reply.TheVariants.{Prices, Position, Status, Added}
+use Rattle.mk_reply.specs.declared.reply.Reply.TheVariants.{Joined, Deposited, Withdrawn, Price, Limits as Limited, Traded, Bounded, Spreaded, Worst, Resolved as ResolvedPair, Settled as Listed, SettledAll, Bound, Refused}
+use Rattle.mk_reply.specs.declared.reply.Reply.TheVariants.{Paid, Prices, Position, Status, Added}
 
 unfoldable pub read_long : Read ℕ
 read_long = read_number (2 ^ 63)
@@ -25,9 +26,13 @@ read_narrow = read_number (2 ^ 32)
 abbrev pub boxed : Option (List (ℕ × ℕ)) → Option (ArrayVec (ℕ × ℕ))
 boxed intervals = option_map (λ given. record { items = given }) intervals
 
--- the number of users, and of variables, that a market holds at most
+-- the number of users that a market may hold at most
+unfoldable pub read_users_limit : Read ℕ
+read_users_limit = passed (λ n. nat_le 1 n && nat_le n max_users) read_narrow
+
+-- the number of variables that a market holds at most
 unfoldable pub read_held : Read ℕ
-read_held = passed (λ n. n == max_users) read_narrow
+read_held = passed (λ n. n == max_variables) read_narrow
 
 unfoldable pub read_stale : Read Refusal
 read_stale = made (λ parts. Stale (parts.0) (parts.1)) (both read_narrow (behind (codes " ") read_long))
@@ -44,6 +49,7 @@ plain_forms =
     (codes "syntax", given Syntax)
     ∷ (codes "long", given Long)
     ∷ (codes "settled", given Settled)
+    ∷ (codes "unsettled", given Unsettled)
     ∷ (codes "wide", given Wide)
     ∷ (codes "memory", given Memory)
     ∷ []
@@ -67,7 +73,7 @@ paired_forms =
 
 abbrev pub numbered_forms : List (List ℕ × Read Refusal)
 numbered_forms =
-    (codes "users ", made (λ held. Users held) read_held)
+    (codes "users ", made (λ held. Users held) read_users_limit)
     ∷ (codes "stale ", read_stale)
     ∷ (codes "range ", made (λ number. Range number) read_narrow)
     ∷ (codes "full ", made (λ held. Full held) read_narrow)
@@ -165,10 +171,29 @@ read_payment = passed (λ p. p.paid == p.low)
     (both read_name (behind (codes " ") (both (read_range (2 ^ 63)) (behind (codes " paid ") read_long)))))
 
 unfoldable pub read_payments : Read (List Payment)
-read_payments = items never (codes ", ") read_payment 256 []
+read_payments = items never (codes ", ") read_payment max_payments []
+
+unfoldable pub read_paid : Read Reply
+read_paid = made (λ payment. Paid payment) read_payment
+
+-- so many users that a settlement does not list what each is paid
+unfoldable pub read_many_users : Read ℕ
+read_many_users = passed (λ n. nat_lt max_payments n && nat_le n max_users) read_narrow
+
+-- what stands behind the revision of a settlement: how many users are paid, and how much together,
+-- or what each is paid
+unfoldable pub read_settled_all : ℕ → Read Reply
+read_settled_all at = made (λ parts. SettledAll at (parts.0) (parts.1))
+    (both read_many_users (behind (codes " paid ") read_long))
+
+abbrev pub read_listed : ℕ → Read Reply
+read_listed at = made (λ payments. Listed at payments) read_payments
 
 unfoldable pub read_settled : Read Reply
-read_settled = made (λ parts. AllSettled (parts.0) (parts.1)) (both (behind (codes " at ") read_long) read_payments)
+read_settled bytes =
+    option_and_then
+    (λ at. either (codes " users ") (read_settled_all (at.0)) (read_listed (at.0)) (at.1))
+    (behind (codes " at ") read_long bytes)
 
 unfoldable pub read_all_prices : Read Reply
 read_all_prices = made (λ xs. Prices (record { items = xs })) (read_several read_two_prices)
@@ -215,6 +240,7 @@ other_forms =
 abbrev pub later_forms : List (List ℕ × Read Reply)
 later_forms =
     (codes "bound ", read_bound)
+    ∷ (codes "paid ", read_paid)
     ∷ (codes "prices ", read_all_prices)
     ∷ (codes "position ", read_position)
     ∷ (codes "status at ", read_status)

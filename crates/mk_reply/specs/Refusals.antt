@@ -1,5 +1,5 @@
 -- Refusals, and how they are written.
-use Rattle.std.specs.Prelude.{◌≡◌, ℕ, List, codes, decimal, ⊤, Option, option_map}
+use Rattle.std.specs.Prelude.{◌≡◌, ℕ, ◌≤◌, List, codes, decimal, ⊤, Option, option_map}
 use Rattle.arrayvec.specs.ArrayVec.{ArrayVec}
 use Rattle.mk_net.specs.Bounds.{max_users, max_variables}
 use Rattle.mk_net.specs.Name.{IsName}
@@ -8,9 +8,9 @@ use Rattle.mk_text.specs.Numbers.{IsShort, IsLong, IsNarrow, AreLimits, limits_t
 use Rattle.mk_text.specs.Texts.{IsPairText, pair_text}
 use Rattle.mk_reply.specs.declared.refusal.Refusal.{Refusal}
 use Rattle.mk_reply.specs.declared.refusal.Refusal.TheVariants.{Syntax, Long, Settled, User, Exists, Users, Unknown, Twice, Stale, Resolved, Impossible, Wide, Range, Full, Beyond, Short, Unresolved, NoVariable, Numbers, Sum, Outside, Sure, Memory}
-use Rattle.mk_reply.specs.declared.refusal.Refusal.TheVariants.{Variables, Taken, ValueTwice}
+use Rattle.mk_reply.specs.declared.refusal.Refusal.TheVariants.{Unsettled, Variables, Taken, ValueTwice}
 use Rattle.mk_reply.specs.declared.refusal.Refusal.TheVariants.{RowCount, RowWidth, Cells, Link}
-use Rattle.mk_reply.specs.declared.refusal.Refusal.TheVariants.{Uncovered, NotRunning}
+use Rattle.mk_reply.specs.declared.refusal.Refusal.TheVariants.{Uncovered, NotRunning, Unsettled}
 
 -- the intervals that are given, if there are any
 abbrev pub given_in : Option (ArrayVec (ℕ × ℕ)) → Option (List (ℕ × ℕ))
@@ -20,6 +20,7 @@ abbrev pub refusal_text : Refusal → List ℕ
 refusal_text Syntax = codes "syntax"
 refusal_text Long = codes "long"
 refusal_text Settled = codes "settled"
+refusal_text Unsettled = codes "unsettled"
 refusal_text (User user) = codes "user " & user
 refusal_text (Exists user) = codes "exists " & user
 refusal_text (Users held) = codes "users " & decimal held
@@ -50,14 +51,20 @@ refusal_text (Uncovered variable) = codes "cover " & variable
 refusal_text (NotRunning variable) = codes "running " & variable
 refusal_text Memory = codes "memory"
 
+-- how many users a market may hold at most
+pub record IsUsersLimit (n : ℕ) : Type 0 where
+  pub positive : 1 ≤ n
+  pub most : n ≤ max_users
+
 -- the refusals that are read
 abbrev pub IsRefusal : Refusal → Type 0
 IsRefusal Syntax = ⊤
 IsRefusal Long = ⊤
 IsRefusal Settled = ⊤
+IsRefusal Unsettled = ⊤
 IsRefusal (User user) = IsName user
 IsRefusal (Exists user) = IsName user
-IsRefusal (Users held) = held ≡ max_users
+IsRefusal (Users held) = IsUsersLimit held
 IsRefusal (Unknown pair) = IsPairText pair
 IsRefusal (Twice variable) = IsName variable
 IsRefusal (Stale named now) = IsNarrow named × IsLong now

@@ -1,6 +1,6 @@
 -- Replies, and how they are written.
-use Rattle.std.specs.Prelude.{◌≡◌, ◌≢◌, ℕ, ◌≤◌, List, ◌++◌, length, codes, decimal, All}
-use Rattle.mk_net.specs.Bounds.{max_users}
+use Rattle.std.specs.Prelude.{◌≡◌, ◌≢◌, ℕ, ◌≤◌, ◌<◌, List, ◌++◌, length, codes, decimal, All}
+use Rattle.mk_net.specs.Bounds.{max_users, max_payments}
 use Rattle.mk_net.specs.Name.{IsName}
 use Rattle.mk_text.specs.Joined.{◌&◌, items_text, spaced, AreSeveral}
 use Rattle.mk_text.specs.Numbers.{IsLong, IsNarrow, IsPrice, price_text, range_text, AreLimits, limits_text, AreIntervals, intervals_text}
@@ -11,6 +11,7 @@ use Rattle.mk_reply.specs.declared.payments.Payment.{Payment}
 use Rattle.mk_reply.specs.declared.reply.Reply.{Reply}
 use Rattle.mk_reply.specs.declared.reply.Reply.TheVariants.{Joined, Deposited, Withdrawn, Price, Limits, Traded, Bounded, Spreaded, Worst, Resolved, Settled, Bound, Refused}
 use Rattle.mk_reply.specs.declared.reply.Reply.TheVariants.{Prices, Position, Status, Added}
+use Rattle.mk_reply.specs.declared.reply.Reply.TheVariants.{Paid, SettledAll}
 use Rattle.mk_reply.specs.declared.unread.Unread.{Unread}
 use Rattle.mk_reply.specs.declared.unread.Unread.TheVariants.{Syntax, Memory}
 
@@ -35,8 +36,11 @@ reply_text (Traded hit miss at) = codes "trade " & decimal hit & codes " " & dec
 reply_text (Bounded intervals at) = codes "bounds " & intervals_text (given_in intervals) & at_text at
 reply_text (Spreaded factors at) = codes "spread " & spaced decimal factors.items & at_text at
 reply_text (Worst low high) = codes "worst " & range_text low high
+reply_text (Paid payment) = codes "paid " & payment_text payment
 reply_text (Resolved pair at) = codes "resolve " & pair_text pair & at_text at
 reply_text (Settled at payments) = codes "settle" & at_text at & items_text (codes ", ") payment_text payments
+reply_text (SettledAll at users total) =
+    codes "settle" & at_text at & codes " users " & decimal users & codes " paid " & decimal total
 reply_text (Bound low high) = codes "bound " & range_text low high
 reply_text (Prices intervals) = codes "prices " & spaced prices_text intervals.items
 reply_text (Position intervals) = codes "position " & spaced ends_text intervals.items
@@ -60,13 +64,15 @@ pub record IsPayment (p : Payment) : Type 0 where
   pub high : IsLong p.high
   pub paid : p.paid ≡ p.low
 
--- the most payments of a settlement: one for each user
-abbrev pub max_payments : ℕ
-max_payments = max_users
-
+-- the payments that a settlement lists: no more than fit
 pub record ArePayments (payments : List Payment) : Type 0 where
   pub few : length payments ≤ max_payments
   pub each : All IsPayment payments
+
+-- so many users that a settlement does not list what each is paid
+pub record IsManyUsers (n : ℕ) : Type 0 where
+  pub many : max_payments < n
+  pub most : n ≤ max_users
 
 -- the replies that are read
 abbrev pub IsReply : Reply → Type 0
@@ -79,8 +85,10 @@ IsReply (Traded hit miss at) = IsRatio hit × IsRatio miss × IsLong at
 IsReply (Bounded intervals at) = AreIntervals (given_in intervals) × IsLong at
 IsReply (Spreaded factors at) = AreSeveral IsRatio factors.items × IsLong at
 IsReply (Worst low high) = IsLong low × IsLong high
+IsReply (Paid payment) = IsPayment payment
 IsReply (Resolved pair at) = IsPairText pair × IsLong at
 IsReply (Settled at payments) = IsLong at × ArePayments payments
+IsReply (SettledAll at users total) = IsLong at × IsManyUsers users × IsLong total
 IsReply (Bound low high) = IsLong low × IsLong high
 IsReply (Prices intervals) = AreSeveral ArePrices intervals.items
 IsReply (Position intervals) = AreSeveral AreEnds intervals.items

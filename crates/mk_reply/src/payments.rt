@@ -2,14 +2,14 @@
 
 ghost use Rattle.std.specs.Prelude.{◌≡◌, ◌<◌, ◌≤◌, [], ◌∷◌, ◌++◌, length, IfOk};
 ghost use Rattle.std.specs.Cmp.Lexicographic.{pointwise, lists_per};
-ghost use Rattle.mk_net.specs.Bounds.{max_users};
+ghost use Rattle.mk_net.specs.Bounds.{max_payments};
 
 use mk_net::{Name, NoMemory};
 use std::alloc::Global;
 use std::marker::Model;
 
-/// The most users of a market, each of whom is paid once.
-const MAX_USERS: usize = 256;
+/// The most payments that a settlement lists.
+const MAX_PAYMENTS: usize = 256;
 
 /// What a user is paid at the end: the low end of the interval that holds the cash of the user's factor, in points.
 #[derive(Clone, Copy, Debug, Default, PartialEq, Eq)]
@@ -28,28 +28,28 @@ pub struct Payments {
 
 impl Model for Payments {
     ghost use Rattle.std.specs.Prelude.{List, ◌≤◌, length, vec_capacity};
-    ghost use Rattle.mk_net.specs.Bounds.{max_users};
+    ghost use Rattle.mk_net.specs.Bounds.{max_payments};
     ghost use Rattle.mk_reply.specs.declared.payments.Payment.{Payment};
 
     ghost Value = { List Payment };
 
     ghost view = { λ p. p.rows.items };
 
-    ghost invariant = { λ p. (max_users ≤ vec_capacity p.rows) × (length p.rows.items ≤ max_users) };
+    ghost invariant = { λ p. (max_payments ≤ vec_capacity p.rows) × (length p.rows.items ≤ max_payments) };
 }
 
 impl Payments {
-    /// No payment yet, with room for one to each user.
+    /// No payment yet, with room for as many as a settlement lists.
     pub fn start(alloc: Global) -> Result<Payments, NoMemory>
         ensures { IfOk result (λ payments. payments ≡ []) }
     {
-        let rows = Vec::with_capacity(alloc, MAX_USERS)?;
+        let rows = Vec::with_capacity(alloc, MAX_PAYMENTS)?;
         Ok(Payments { rows })
     }
 
     /// Puts a payment behind those before.
     pub fn push(&mut self, payment: Payment)
-        requires { length self.old < max_users }
+        requires { length self.old < max_payments }
         ensures { self.new ≡ self.old ++ payment ∷ [] }
     {
         self.rows.push_reserved(payment);
@@ -58,7 +58,7 @@ impl Payments {
     /// The payments in their order.
     pub fn rows(&self) -> &[Payment]
         ensures same { result.now ≡ self.now }
-        ensures few { length self.now ≤ max_users }
+        ensures few { length self.now ≤ max_payments }
     {
         self.rows.as_slice()
     }

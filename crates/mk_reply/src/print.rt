@@ -8,6 +8,8 @@ ghost use Rattle.mk_text.specs.Texts.{pair_text};
 ghost use Rattle.mk_reply.specs.Refusals.{refusal_text, given_in};
 ghost use Rattle.mk_reply.specs.Replies.{reply_text, at_text, payment_text, of_text};
 ghost use Rattle.mk_reply.specs.inner.Kinds.{IsTold};
+ghost use Rattle.mk_reply.specs.declared.refusal.Refusal.TheVariants.{Stale};
+ghost use Rattle.mk_reply.specs.declared.reply.Reply.TheVariants.{SettledAll};
 
 use crate::payments::Payment;
 use crate::refusal::{Intervals, Refusal};
@@ -55,6 +57,7 @@ pub fn print_reply(reply: &Reply, out: &mut ArrayString<32768>)
             put_at(out, *at);
             put_payments(out, payments.rows());
         }
+        Reply::SettledAll { at, users, total } => put_settled(out, *at, *users, *total),
         Reply::Added { variable, at } => put_dated(out, "add ", variable, *at),
         Reply::Refused { why } => {
             out.push_str("refused ");
@@ -82,6 +85,7 @@ fn put_told(out: &mut Text, reply: &Reply)
             put_at(out, *at);
         }
         Reply::Worst { low, high } => put_ends(out, "worst ", *low, *high),
+        Reply::Paid { payment } => put_paid(out, payment),
         Reply::Bound { low, high } => put_ends(out, "bound ", *low, *high),
         Reply::Prices { intervals } => {
             out.push_str("prices ");
@@ -208,6 +212,17 @@ fn put_trade(out: &mut Text, hit: u64, miss: u64, at: u64)
     put_at(out, at);
 }
 
+fn put_settled(out: &mut Text, at: u64, users: u32, total: u64)
+    requires { array_string_len out.old + 83 ≤ 32768 }
+    ensures text { out.new.bytes ≡ out.old.bytes ++ reply_text (SettledAll at users total) }
+    ensures growth { array_string_len out.new ≤ array_string_len out.old + 83 }
+{
+    out.push_str("settle");
+    put_at(out, at);
+    put_counted(out, " users ", users as u64);
+    put_counted(out, " paid ", total);
+}
+
 fn put_at(out: &mut Text, at: u64)
     requires { array_string_len out.old + 24 ≤ 32768 }
     ensures text { out.new.bytes ≡ out.old.bytes ++ at_text at }
@@ -239,6 +254,24 @@ fn put_payment(out: &mut Text, payment: &Payment)
     put_counted(out, " paid ", payment.paid);
 }
 
+fn put_paid(out: &mut Text, payment: &Payment)
+    requires { array_string_len out.old + 106 ≤ 32768 }
+    ensures text { out.new.bytes ≡ out.old.bytes ++ (codes "paid " ++ payment_text payment.now) }
+    ensures growth { array_string_len out.new ≤ array_string_len out.old + 106 }
+{
+    out.push_str("paid ");
+    put_payment(out, payment);
+}
+
+fn put_stale(out: &mut Text, named: u32, now: u64)
+    requires { array_string_len out.old + 47 ≤ 32768 }
+    ensures text { out.new.bytes ≡ out.old.bytes ++ refusal_text (Stale named now) }
+    ensures growth { array_string_len out.new ≤ array_string_len out.old + 47 }
+{
+    put_counted(out, "stale ", named as u64);
+    put_counted(out, " ", now);
+}
+
 fn put_refusal(out: &mut Text, why: &Refusal)
     requires { array_string_len out.old + 696 ≤ 32768 }
     ensures text { out.new.bytes ≡ out.old.bytes ++ refusal_text why.now }
@@ -248,15 +281,13 @@ fn put_refusal(out: &mut Text, why: &Refusal)
         Refusal::Syntax => out.push_str("syntax"),
         Refusal::Long => out.push_str("long"),
         Refusal::Settled => out.push_str("settled"),
+        Refusal::Unsettled => out.push_str("unsettled"),
         Refusal::User { user } => put_named(out, "user ", user),
         Refusal::Exists { user } => put_named(out, "exists ", user),
         Refusal::Users { held } => put_counted(out, "users ", *held as u64),
         Refusal::Unknown { pair } => put_paired(out, "name ", pair),
         Refusal::Twice { variable } => put_named(out, "twice ", variable),
-        Refusal::Stale { named, now } => {
-            put_counted(out, "stale ", *named as u64);
-            put_counted(out, " ", *now);
-        }
+        Refusal::Stale { named, now } => put_stale(out, *named, *now),
         Refusal::Resolved { variable } => put_named(out, "resolved ", variable),
         Refusal::Impossible { pair } => put_paired(out, "impossible ", pair),
         Refusal::Wide => out.push_str("wide"),

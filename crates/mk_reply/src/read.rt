@@ -4,8 +4,10 @@ ghost use Rattle.std.specs.Prelude.{◌≡◌, ℕ, List, IfOk, IfErr, option_ma
 ghost use Rattle.mk_text.specs.Reading.{Finds, behind};
 ghost use Rattle.mk_reply.specs.Replies.{IsReply, reply_text, IsUnread, IsCausedBy};
 ghost use Rattle.mk_reply.specs.Replies.{BeginsSettlement, BeginsWithRevision};
-ghost use Rattle.mk_reply.specs.Reading.{read_long, read_joined, read_moved, read_prices, read_limited, read_traded, read_bounded, read_spreaded, read_worst, read_bound, read_resolved, read_payment, read_payments, read_settled, read_other, read_form};
-ghost use Rattle.mk_reply.specs.Reading.{read_all_prices, read_position, read_added, read_later};
+ghost use Rattle.mk_reply.specs.Reading.{read_long, read_joined, read_moved, read_prices, read_limited, read_traded, read_bounded, read_spreaded, read_worst, read_bound, read_resolved, read_payment, read_payments, read_other, read_form};
+ghost use Rattle.mk_reply.specs.Reading.{read_many_users, read_settled_all, read_settled};
+ghost use Rattle.mk_reply.specs.Reading.{read_all_prices, read_position, read_added};
+ghost use Rattle.mk_reply.specs.Reading.{read_paid, read_later};
 ghost use Rattle.mk_reply.specs.Reading.{read_of, read_transfers, read_status};
 
 use crate::payments::{Payment, Payments};
@@ -98,6 +100,9 @@ fn later(reader: &mut Reader) -> Option<Reply>
 {
     if reader.skip(b"bound ") {
         return bound(reader);
+    }
+    if reader.skip(b"paid ") {
+        return paid(reader);
     }
     if reader.skip(b"prices ") {
         return all_prices(reader);
@@ -206,6 +211,14 @@ fn bound(reader: &mut Reader) -> Option<Reply>
     Some(Reply::Bound { low, high })
 }
 
+#[tactic(auto, unfolding(crate::specs::Reading::read_paid))]
+fn paid(reader: &mut Reader) -> Option<Reply>
+    ensures { Finds result reader.new (read_paid reader.old) }
+{
+    let payment = payment(reader)?;
+    Some(Reply::Paid { payment })
+}
+
 #[tactic(auto, unfolding(crate::specs::Reading::read_all_prices))]
 fn all_prices(reader: &mut Reader) -> Option<Reply>
     ensures { Finds result reader.new (read_all_prices reader.old) }
@@ -293,10 +306,37 @@ fn settled(alloc: Global, reader: &mut Reader) -> Result<Option<Reply>, NoMemory
     let Some(at) = revision(reader) else {
         return Ok(None);
     };
+    if reader.skip(b" users ") {
+        return Ok(settled_all(reader, at));
+    }
     let mut payments = Payments::start(alloc)?;
     match read_payments(reader, &mut payments) {
         Some(()) => Ok(Some(Reply::Settled { at, payments })),
         None => Ok(None),
+    }
+}
+
+/// What stands behind the revision where a settlement does not list its payments.
+#[tactic(auto, unfolding(crate::specs::Reading::read_settled_all))]
+fn settled_all(reader: &mut Reader, at: u64) -> Option<Reply>
+    ensures { Finds result reader.new (read_settled_all at reader.old) }
+{
+    let users = many_users(reader)?;
+    reader.expect(b" paid ")?;
+    let total = long(reader)?;
+    Some(Reply::SettledAll { at, users, total })
+}
+
+/// A number of users who are more than a settlement lists.
+#[tactic(auto, unfolding(crate::specs::Reading::read_many_users))]
+fn many_users(reader: &mut Reader) -> Option<u32>
+    ensures { Finds result reader.new (read_many_users reader.old) }
+{
+    let users = narrow(reader)?;
+    if 256 < users && users <= 65_536 {
+        Some(users)
+    } else {
+        None
     }
 }
 

@@ -2,8 +2,9 @@
 
 ghost use Rattle.std.specs.Prelude.{◌≡◌, ◌^◌, ◌<◌, IfSome};
 ghost use Rattle.mk_text.specs.Reading.{Finds};
-ghost use Rattle.mk_reply.specs.Reading.{read_long, read_narrow, read_held, read_stale, read_width};
+ghost use Rattle.mk_reply.specs.Reading.{read_long, read_narrow, read_users_limit, read_held};
 ghost use Rattle.mk_reply.specs.Reading.{read_refusal, read_named, read_paired, read_numbered};
+ghost use Rattle.mk_reply.specs.Reading.{read_stale, read_width};
 ghost use Rattle.mk_reply.specs.Reading.{read_spread_out, read_not_added, read_miscounted};
 
 use crate::refusal::Refusal;
@@ -22,6 +23,9 @@ pub fn refusal(reader: &mut Reader) -> Option<Refusal>
     }
     if reader.skip(b"settled") {
         return Some(Refusal::Settled);
+    }
+    if reader.skip(b"unsettled") {
+        return Some(Refusal::Unsettled);
     }
     if reader.skip(b"wide") {
         return Some(Refusal::Wide);
@@ -90,7 +94,7 @@ fn numbered(reader: &mut Reader) -> Option<Refusal>
     ensures { Finds result reader.new (read_numbered reader.old) }
 {
     if reader.skip(b"users ") {
-        let held = held(reader)?;
+        let held = users_limit(reader)?;
         return Some(Refusal::Users { held });
     }
     if reader.skip(b"stale ") {
@@ -206,7 +210,20 @@ fn stale(reader: &mut Reader) -> Option<Refusal>
     Some(Refusal::Stale { named, now })
 }
 
-// The number of users, and of variables, that a market holds at most.
+// The number of users that a market may hold at most.
+#[tactic(auto, unfolding(crate::specs::Reading::read_users_limit))]
+fn users_limit(reader: &mut Reader) -> Option<u32>
+    ensures { Finds result reader.new (read_users_limit reader.old) }
+{
+    let held = narrow(reader)?;
+    if 1 <= held && held <= 65_536 {
+        Some(held)
+    } else {
+        None
+    }
+}
+
+// The number of variables that a market holds at most.
 #[tactic(auto, unfolding(crate::specs::Reading::read_held))]
 fn held(reader: &mut Reader) -> Option<u32>
     ensures { Finds result reader.new (read_held reader.old) }

@@ -15,6 +15,8 @@ pub enum Refusal {
     Long,
     /// The market is settled.
     Settled,
+    /// The market is not settled yet.
+    Unsettled,
     /// The user has not joined.
     User { user: Name },
     /// The user has joined already.

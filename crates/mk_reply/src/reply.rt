@@ -1,6 +1,6 @@
 //! The answers to lines that are not blank.
 
-use crate::payments::Payments;
+use crate::payments::{Payment, Payments};
 use crate::refusal::{Intervals, Refusal};
 use arrayvec::ArrayVec;
 use mk_net::{Name, PairText};
@@ -59,6 +59,10 @@ pub enum Reply {
         low: u64,
         high: u64,
     },
+    /// What a user is paid, where the market is settled.
+    Paid {
+        payment: Payment,
+    },
     /// A variable was resolved.
     Resolved {
         pair: PairText,
@@ -68,6 +72,13 @@ pub enum Reply {
     Settled {
         at: u64,
         payments: Payments,
+    },
+    /// The market was settled, and more users are paid than a reply lists: so many, and so much
+    /// together.
+    SettledAll {
+        at: u64,
+        users: u32,
+        total: u64,
     },
     /// An interval that holds the most that the operator can lose, in points.
     Bound {

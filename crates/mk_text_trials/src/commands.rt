@@ -119,6 +119,21 @@ fn reads_and_prints_each_form(rt: HostRuntime) {
 }
 
 #[test]
+fn reads_and_prints_what_is_paid(rt: HostRuntime) {
+    let user = name(&rt, b"alice");
+    both_ways(&rt, "paid alice", Command::Paid { user });
+    let user = name(&rt, b"paid");
+    both_ways(&rt, "paid paid", Command::Paid { user });
+    both_ways(&rt, "worst paid", Command::Worst { user });
+    prices(&rt, "prices paid", b"paid", &[]);
+    let pair = pair(&rt, b"paid", b"paid");
+    both_ways(&rt, "resolve paid=paid", Command::Resolve { pair });
+    let user = name(&rt, LONGEST_NAME);
+    let text = "paid abcdefghijklmnopqrstuvwxyz_01234";
+    both_ways(&rt, text, Command::Paid { user });
+}
+
+#[test]
 fn reads_and_prints_questions(rt: HostRuntime) {
     let user = name(&rt, b"alice");
     let coin = pair(&rt, b"coin", b"heads");
@@ -438,6 +453,17 @@ add x=a,b : 1 999999 in a,b,c,d,e,f,g,h,i,j,k,l,m,n to 1
 add X=a,b : 1 999999 in X to 1
 status at 1 users 1 trades 0 of 1000 transfers 0 of 65536 open 1 of 1
 worst
+paid
+paid 
+paid coin=heads
+paid alice bob
+paid alice at 5
+paid  alice
+paid alice 
+paid Alice
+Paid alice
+paid abcdefghijklmnopqrstuvwxyz_012345
+paid alice 5..6 paid 5
 resolve coin
 resolve coin=heads | rain=yes";
 

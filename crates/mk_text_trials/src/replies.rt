@@ -348,6 +348,84 @@ fn reads_and_prints_settlements(rt: HostRuntime) -> Result<(), Fail> {
 }
 
 #[test]
+fn reads_and_prints_settlements_of_many(rt: HostRuntime) -> Result<(), Fail> {
+    for (at, users, total, text) in [
+        (5, 257, 5, "settle at 5 users 257 paid 5"),
+        (0, 65_536, 0, "settle at 0 users 65536 paid 0"),
+    ] {
+        let settled = Reply::SettledAll { at, users, total };
+        both_ways(&rt, rt.alloc(), text, settled)?;
+    }
+    let longest = Reply::SettledAll {
+        at: MOST,
+        users: 65_536,
+        total: MOST,
+    };
+    no_longer(&rt, rt.alloc(), longest, 66, ", ")
+}
+
+#[test]
+fn reads_and_prints_what_one_is_paid(rt: HostRuntime) -> Result<(), Fail> {
+    let alice = Payment {
+        user: name(&rt, b"alice"),
+        low: 5,
+        high: 6,
+        paid: 5,
+    };
+    let text = "paid alice 5..6 paid 5";
+    both_ways(&rt, rt.alloc(), text, Reply::Paid { payment: alice })?;
+    let odd = Payment {
+        user: name(&rt, b"paid"),
+        low: 0,
+        high: 0,
+        paid: 0,
+    };
+    let text = "paid paid 0..0 paid 0";
+    both_ways(&rt, rt.alloc(), text, Reply::Paid { payment: odd })?;
+    let longest = Payment {
+        user: name(&rt, b"abcdefghijklmnopqrstuvwxyz_01234"),
+        low: MOST,
+        high: MOST,
+        paid: MOST,
+    };
+    no_longer(&rt, rt.alloc(), Reply::Paid { payment: longest }, 103, " ")
+}
+
+#[test]
+fn reads_and_prints_refusals_of_a_market(rt: HostRuntime) -> Result<(), Fail> {
+    let alloc = rt.alloc();
+    refused(&rt, alloc, "refused unsettled", Refusal::Unsettled)?;
+    refused(&rt, alloc, "refused users 1", Refusal::Users { held: 1 })?;
+    refused(
+        &rt,
+        alloc,
+        "refused users 257",
+        Refusal::Users { held: 257 },
+    )
+}
+
+#[test]
+fn reads_and_prints_names_that_are_words(rt: HostRuntime) -> Result<(), Fail> {
+    let alloc = rt.alloc();
+    let paid = name(&rt, b"paid");
+    let pair = PairText {
+        variable: paid,
+        value: paid,
+    };
+    let at = 1;
+    let joined = Reply::Joined { user: paid, at };
+    both_ways(&rt, alloc, "user paid at 1", joined)?;
+    let resolved = Reply::Resolved { pair, at };
+    both_ways(&rt, alloc, "resolve paid=paid at 1", resolved)?;
+    let added = Reply::Added { variable: paid, at };
+    both_ways(&rt, alloc, "add paid at 1", added)?;
+    let why = Refusal::User { user: paid };
+    refused(&rt, alloc, "refused user paid", why)?;
+    let why = Refusal::ValueTwice { value: paid };
+    refused(&rt, alloc, "refused value paid", why)
+}
+
+#[test]
 fn reads_and_prints_the_longest_settlement(rt: HostRuntime) -> Result<(), Fail> {
     let user = name(&rt, b"abcdefghijklmnopqrstuvwxyz_01234");
     let mut payments = Payments::start(rt.alloc())?;
@@ -385,7 +463,7 @@ fn reads_and_prints_refusals(rt: HostRuntime) -> Result<(), Fail> {
         (Refusal::Settled, "refused settled"),
         (Refusal::User { user }, "refused user zed"),
         (Refusal::Exists { user }, "refused exists zed"),
-        (Refusal::Users { held: 256 }, "refused users 256"),
+        (Refusal::Users { held: 65_536 }, "refused users 65536"),
         (Refusal::Unknown { pair: unknown }, "refused name coin=edge"),
         (Refusal::Twice { variable }, "refused twice coin"),
         (Refusal::Stale { named: 3, now: 4 }, "refused stale 3 4"),
@@ -527,13 +605,38 @@ settle at 1,alice 1..1 paid 1
 settle at 1, alice 1..2 paid 2
 settle at 1, alice 1..2 paid 01
 settle at 1, alice 1..2
+settle at 5 users 256 paid 5
+settle at 5 users 65537 paid 5
+settle at 5 users 300
+settle at 5 users 300 paid
+settle at 5 users 0300 paid 5
+settle at 5 users 300 paid 05
+settle at 5 users 300 paid 9223372036854775808
+settle at 5 users 300 paid 5 
+settle at 5 users 300 paid 5, alice 5..6 paid 5
+settle at 5 paid 5
+settle at 5  users 300 paid 5
+settle users 300 paid 5
+settle at 5, users 300 paid 5
+paid
+paid alice
+paid alice 5..6 paid 6
+paid alice 5..5
+paid alice 5..6 paid 05
+paid alice 5..6 paid 5 at 1
+paid alice 5..6 paid 5 
+paid 5..6 paid 5
+paid alice 5..6 paid 5, bob 5..6 paid 5
 settle at 1, 
 refused
 refused 
 refused Syntax
 refused syntax error
-refused users 255
+refused users 0
+refused users 65537
 refused users 0256
+refused Unsettled
+refused unsettled at 1
 refused stale 4294967296 1
 refused stale 1
 refused range 4294967296

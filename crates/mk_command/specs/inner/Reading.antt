@@ -10,6 +10,7 @@ use Rattle.mk_addition.specs.declared.add.AddText.{AddText}
 use Rattle.mk_command.specs.declared.command.Command.{Command}
 use Rattle.mk_command.specs.declared.command.Command.TheVariants.{User, Deposit, Withdraw, Price, Limits, Edit, Bounds, Spread, Worst, Resolve, Settle, Bound}
 use Rattle.mk_command.specs.declared.command.Command.TheVariants.{Prices, Position, Status, Add}
+use Rattle.mk_command.specs.declared.command.Command.TheVariants.{Paid}
 
 unfoldable pub read_user : Read Command
 read_user = made (λ user. User user) read_name
@@ -45,6 +46,9 @@ read_spread = made (λ parts. Spread (parts.0) (parts.1.0) (held (parts.1.1.0)) 
 
 unfoldable pub read_worst : Read Command
 read_worst = made (λ user. Worst user) read_name
+
+unfoldable pub read_paid : Read Command
+read_paid = made (λ user. Paid user) read_name
 
 unfoldable pub read_resolve : Read Command
 read_resolve = made (λ pair. Resolve pair) read_pair
@@ -82,6 +86,7 @@ abbrev pub other_forms : List (List ℕ × Read Command)
 other_forms =
     (codes "settle", given Settle)
     ∷ (codes "bound", given Bound)
+    ∷ (codes "paid ", read_paid)
     ∷ (codes "prices ", read_prices)
     ∷ (codes "position ", read_position)
     ∷ (codes "status", given Status)
