@@ -56,8 +56,8 @@ taken_few : (net : ℤ) (deposits withdrawals : ℕ) → IsNet net deposits with
 taken_few (pos n) deposits withdrawals h = omega arith
 taken_few (negsuc n) deposits withdrawals h = omega (arith, h.same)
 
-product_small : (b x : ℕ) → b ≤ 1000000 → x ≤ 2 ^ 27 → b * x < 2 ^ 50
-product_small b x h l = let m : b * x ≤ 1000000 * 2 ^ 27 = mul-le-mul h l in omega arith
+product_small : (b x : ℕ) → b ≤ 1000000 → x ≤ 1100000000 → b * x < 2 ^ 50
+product_small b x h l = let m : b * x ≤ 1000000 * 1100000000 = mul-le-mul h l in omega arith
 
 -- each ratio of a list of trades counts
 ratios_are : (ts : List UserTrade) → count_by is_ratio (map (λ (t : UserTrade). RatioOf t.ratio) ts) ≡ length ts

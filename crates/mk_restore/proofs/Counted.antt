@@ -21,12 +21,18 @@ use Rattle.mk_rules.specs.Additions.{addition_of}
 use Rattle.mk_rules.proofs.Unrefused.{none_applies, question_exists, pair_known}
 use Rattle.mk_restore.specs.Restoring.{Agrees, refusals_again}
 use Rattle.mk_restore.specs.Laws.{FitAppends, EachCounts}
+use Rattle.mk_command.specs.declared.command.Command.TheVariants.{Paid}
+use Rattle.mk_restore.proofs.Settled.{SettledIs, settled_is}
+use Rattle.std.proofs.Common.{inl, inr}
+use Rattle.std.proofs.Common.{map}
+use Rattle.mk_exact.specs.ByRule.{payments_by_rule}
+use Rattle.mk_rules.specs.Answers.{ends_of}
 
 pub fit_appends : FitAppends
 fit_appends market H command reply fit = at command fit.unrefused fit.agrees
   where
     at : (command : Command) → first_of (refusals_again market H command) ≡ None
-        → Agrees H command reply → (e : Entry) × (entry_of market H command reply ≡ Some e)
+        → Agrees market H command reply → (e : Entry) × (entry_of market H command reply ≡ Some e)
     at (User u) none e = (Join u, ap (entry_of market H (User u)) e)
     at (Deposit u bits) none e =
         (Deposits (user_number H u) bits, ap (entry_of market H (Deposit u bits)) e)
@@ -51,11 +57,19 @@ fit_appends market H command reply fit = at command fit.unrefused fit.agrees
         let known = ap (entry_of market H (Spread u v condition to seen)) trade.printed in
         (entry spread.0, known ∙ ap (option_map entry) spread.1)
     at (Worst u) none h = absurd h
+    at (Paid u) none h = absurd h
     at (Resolve p) none e =
         let named = pair_known market.network p
         (none_applies (refusals_again market H (Resolve p)) none).1.0 in
         (Resolves named.0, ap (entry_of market H (Resolve p)) e ∙ ap (option_map Resolves) named.1)
-    at Settle none settlement = (Settles, ap (entry_of market H Settle) settlement.printed)
+    at Settle none settlement = settles (settled_is market H reply settlement)
+      where
+        settles : SettledIs market H reply → (e : Entry) × (entry_of market H Settle reply ≡ Some e)
+        settles (inl listed) = (Settles (map ends_of listed.payments), ap (entry_of market H Settle) listed.printed)
+        settles (inr e) = (
+          Settles (payments_by_rule market.network H market.points_per_bit),
+          ap (entry_of market H Settle) e,
+        )
     at Bound none h = absurd h
     at (Prices v condition) none h = absurd h
     at (Position u v condition) none h = absurd h

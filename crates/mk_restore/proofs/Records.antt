@@ -34,6 +34,7 @@ use Rattle.mk_reply.specs.Replies.{reply_text}
 use Rattle.mk_reply.proofs.LengthLaws.{reply_length}
 use Rattle.mk_reply.proofs.ReplyLaws.{form_tells as replies_tell}
 use Rattle.mk_restore.specs.Laws.{CommandIsOneLine, RecordSplits, RecordHoldsOne, RecordIsShort}
+use Rattle.mk_command.specs.declared.command.Command.TheVariants.{Paid}
 
 abbrev is_within : ℕ → Bool
 is_within b = not (b == 10)
@@ -213,6 +214,7 @@ in_line (Spread user variable condition to at) is =
     (named user (variable & pairs & moved) is.0
     (asked variable (pairs & moved) is.1
     (both pairs moved (condition_in_line condition.items is.2) in_moved)))
+in_line (Paid user) is = both (codes "paid ") user refl (name_in_line user is)
 in_line (Worst user) is = both (codes "worst ") user refl (name_in_line user is)
 in_line (Resolve pair) is = both (codes "resolve ") (pair_text pair) refl (pair_in_line pair is)
 in_line Settle is = refl

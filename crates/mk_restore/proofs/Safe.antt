@@ -9,7 +9,7 @@ use Rattle.std.proofs.lemmas.List.Elements.{recursion_from_All}
 use Rattle.arrayvec.specs.ArrayVec.{ArrayVec}
 use Rattle.mk_net.specs.declared.words.PairText.{PairText}
 use Rattle.mk_net.specs.declared.words.QuestionText.{QuestionText}
-use Rattle.mk_net.specs.Bounds.{max_users, max_transfers, max_transfer_bits, number_limit}
+use Rattle.mk_net.specs.Bounds.{max_transfer_bits, number_limit}
 use Rattle.mk_net.specs.Network.{sizes}
 use Rattle.mk_net.specs.Firsts.{first_of}
 use Rattle.std.specs.Prelude.{slice_index}
@@ -52,12 +52,30 @@ use Rattle.mk_rules.proofs.Unrefused.{question_exists, question_known, not_wide,
 use Rattle.mk_rules.proofs.Unrefused.{not_resolved}
 use Rattle.mk_restore.specs.Restoring.{Agrees, refusals_again, IsFit, IsChange}
 use Rattle.mk_restore.specs.Laws.{IsSafe, FitIsSafe, OpeningIsSafe, RestoredIsSafe}
+use Rattle.mk_command.specs.declared.command.Command.TheVariants.{Paid}
+use Rattle.mk_restore.proofs.Settled.{SettledIs, settled_is}
+use Rattle.std.proofs.Common.{inl, inr}
+use Rattle.std.proofs.Common.{map, false}
+use Rattle.mk_states.specs.States.{numbers_below}
+use Rattle.mk_exact.specs.History.{is_settled}
+use Rattle.mk_exact.specs.ByRule.{outcome}
+use Rattle.mk_reply.specs.declared.payments.Payment.{Payment}
+use Rattle.mk_reply.specs.Replies.{IsPayment as IsReadPayment}
+use Rattle.mk_rules.specs.Answers.{ends_of}
+use Rattle.mk_rules.specs.Bounded.{FitPayment, IsBounded}
+use Rattle.mk_rules.proofs.Bounds.{limits_of}
+use Rattle.mk_rules.proofs.Follows.{rule_ends_fit}
 
--- the units of a reply are positive and fit 63 bits
+-- the units of a reply are positive and fit 63 bits, and so do the payments that it lists
 abbrev pub HasUnits : Reply → Type 0
 HasUnits (Traded hit miss at) = IsRatio hit × IsRatio miss
 HasUnits (Spreaded factors at) = All IsRatio factors.items
+HasUnits (Settled at payments) = AllByRecursion FitPayment (map ends_of payments)
 HasUnits _ = ⊤
+
+listed_fit : (payments : List Payment) → AllByRecursion IsReadPayment payments → AllByRecursion FitPayment (map ends_of payments)
+listed_fit [] h = tt
+listed_fit (payment ∷ payments) h = (record { low = h.0.low; high = h.0.high }, listed_fit payments h.1)
 
 -- as those of a reply that has a text
 has_units : (r : Reply) → IsReply r → HasUnits r
@@ -71,7 +89,9 @@ has_units (Bounded intervals at) h = tt
 has_units (Spreaded factors at) h = h.0.each
 has_units (replies.Worst low high) h = tt
 has_units (Resolved pair at) h = tt
-has_units (Settled at payments) h = tt
+has_units (Settled at payments) h = listed_fit payments (recursion_from_All IsReadPayment payments h.1.each)
+has_units (replies.SettledAll at users total) h = tt
+has_units (replies.Paid payment) h = tt
 has_units (replies.Bound low high) h = tt
 has_units (replies.Prices intervals) h = tt
 has_units (replies.Position intervals) h = tt
@@ -90,16 +110,18 @@ record MayBeNext (market : Market) (H : List Entry) (e : Entry) : Type 0 where
   legal : IsMarket market → IsMarket (with_entry e market)
   follows : MayFollow market H e
 
--- whatever an entry adds, the market takes as many trades as before
-as_many_trades : (market : Market) (e : Entry)
-    → market.max_trades ≡ (with_entry e market).max_trades
-as_many_trades market (Join name) = refl
-as_many_trades market (Deposits u bits) = refl
-as_many_trades market (Withdraws u bits) = refl
-as_many_trades market (Trade u r) = refl
-as_many_trades market (Resolves p) = refl
-as_many_trades market Settles = refl
-as_many_trades market (Add a) = refl
+-- whatever an entry adds, the market takes as many trades, users and transfers as before
+same_limits : (market : Market) (e : Entry)
+    → (market.max_trades ≡ (with_entry e market).max_trades)
+    × (market.max_users ≡ (with_entry e market).max_users)
+    × (market.max_transfers ≡ (with_entry e market).max_transfers)
+same_limits market (Join name) = (refl, refl, refl)
+same_limits market (Deposits u bits) = (refl, refl, refl)
+same_limits market (Withdraws u bits) = (refl, refl, refl)
+same_limits market (Trade u r) = (refl, refl, refl)
+same_limits market (Resolves p) = (refl, refl, refl)
+same_limits market (Settles paid) = (refl, refl, refl)
+same_limits market (Add a) = (refl, refl, refl)
 
 next_is_safe : (market : Market) (H : List Entry) (o : Option Entry) → IsSafe market H
     → IfSome o (MayBeNext market H) → IsSafe (with_entries o market) (H ++ option_to_list o)
@@ -111,8 +133,9 @@ next_is_safe market H (Some e) safe h =
       proper = proper_after market H e safe.proper h.in_range;
       none_wide = inside.0;
       few_added = inside.1;
-      bounded = bounded_in market (with_entry e market) (H ++ e ∷ []) (as_many_trades market e)
-          (entry_bounded market H safe.legal.few_trades safe.bounded e h.follows);
+      bounded = let same = same_limits market e in
+          bounded_in market (with_entry e market) (H ++ e ∷ []) same.0 same.1 same.2
+          (entry_bounded market H (limits_of market safe.legal) safe.bounded e h.follows);
     }
 
 module _ (market : Market) (H : List Entry) where
@@ -124,13 +147,13 @@ module _ (market : Market) (H : List Entry) where
   Follows command reply = Appends (MayBeNext market H) market H command reply
 
   transfer_of : (u : List ℕ) (bits : ℕ) → no_user H u ≡ None → range max_transfer_bits bits ≡ None
-      → transfers_full H ≡ None
+      → transfers_full market H ≡ None
       → IsTransferOf (length (users H)) (user_number H u) bits ×
-      (count_by is_transfer H < max_transfers)
+      (count_by is_transfer H < market.max_transfers)
   transfer_of u bits joined within room =
       let numbers = number_in_range max_transfer_bits bits within in (
         record { user = user_in_range H u joined; some = numbers.0; few = numbers.1 },
-        leb-false max_transfers (count_by is_transfer H) (not_faulted _ _ room),
+        leb-false market.max_transfers (count_by is_transfer H) (not_faulted _ _ room),
       )
 
   edit_follows : (u : List ℕ) (q : QuestionText) (X : ℕ) (seen : Option ℕ) (hit miss at : ℕ)
@@ -212,10 +235,10 @@ module _ (market : Market) (H : List Entry) where
       })
 
   fit_follows : (command : Command) (reply : Reply) → IsMarket market → IsProper market.network H
-      → JoinsByName (OfCommand command) → HasUnits reply
-      → IsUnrefused command → Agrees H command reply → Follows command reply
+      → IsBounded market H → JoinsByName (OfCommand command) → HasUnits reply
+      → IsUnrefused command → Agrees market H command reply → Follows command reply
   unfolding IsUnrefused
-  fit_follows (User u) reply legal proper joins units none e =
+  fit_follows (User u) reply legal proper bounded joins units none e =
       let refused = none_applies (refusals_again market H (User u)) none in
       reply_appends (MayBeNext market H) market H (User u) reply _ e (record {
         in_range = tt;
@@ -223,12 +246,12 @@ module _ (market : Market) (H : List Entry) where
         legal = λ is_market. is_market;
         follows = (
           joins,
-          leb-false max_users (length (users H))
+          leb-false market.max_users (length (users H))
               (not_faulted _ _ refused.1.1.0),
           not_faulted _ _ refused.1.0,
         );
       })
-  fit_follows (Deposit u bits) reply legal proper joins units none e =
+  fit_follows (Deposit u bits) reply legal proper bounded joins units none e =
       let refused = none_applies (refusals_again market H (Deposit u bits)) none in
       reply_appends (MayBeNext market H) market H (Deposit u bits) reply _ e
       (record {
@@ -237,7 +260,7 @@ module _ (market : Market) (H : List Entry) where
         legal = λ is_market. is_market;
         follows = transfer_of u bits refused.1.0 refused.1.1.0 refused.1.1.1.0;
       })
-  fit_follows (Withdraw u bits) reply legal proper joins units none e =
+  fit_follows (Withdraw u bits) reply legal proper bounded joins units none e =
       let refused = none_applies (refusals_again market H (Withdraw u bits)) none in
       reply_appends (MayBeNext market H) market H (Withdraw u bits) reply _ e
       (record {
@@ -246,37 +269,52 @@ module _ (market : Market) (H : List Entry) where
         legal = λ is_market. is_market;
         follows = transfer_of u bits refused.1.0 refused.1.1.0 refused.1.1.1.0;
       })
-  fit_follows (Price q) reply legal proper joins units none h = absurd h
-  fit_follows (Limits u q) reply legal proper joins units none h = absurd h
-  fit_follows (Edit u q X seen) reply legal proper joins units none trade =
+  fit_follows (Price q) reply legal proper bounded joins units none h = absurd h
+  fit_follows (Limits u q) reply legal proper bounded joins units none h = absurd h
+  fit_follows (Edit u q X seen) reply legal proper bounded joins units none trade =
       let its = subst HasUnits trade.printed units in
       reply_appends (MayBeNext market H) market H (Edit u q X seen) reply _ trade.printed
       (edit_follows u q X seen trade.hit trade.miss (revision H + 1) its.0 its.1 none)
-  fit_follows (Bounds u v condition) reply legal proper joins units none h = absurd h
-  fit_follows (Spread u v condition to seen) reply legal proper joins units none trade =
+  fit_follows (Bounds u v condition) reply legal proper bounded joins units none h = absurd h
+  fit_follows (Spread u v condition to seen) reply legal proper bounded joins units none trade =
       let its = subst HasUnits trade.printed units in
       reply_appends (MayBeNext market H) market H
       (Spread u v condition to seen) reply _ trade.printed
       (spread_follows u v condition to seen trade.factors
       (revision H + 1) its trade.one_each none)
-  fit_follows (Worst u) reply legal proper joins units none h = absurd h
-  fit_follows (Resolve p) reply legal proper joins units none e =
+  fit_follows (Paid u) reply legal proper bounded joins units none h = absurd h
+  fit_follows (Worst u) reply legal proper bounded joins units none h = absurd h
+  fit_follows (Resolve p) reply legal proper bounded joins units none e =
       reply_appends (MayBeNext market H) market H (Resolve p) reply _ e
       (resolve_follows p (revision H + 1) proper none)
-  fit_follows Settle reply legal proper joins units none settlement =
-      let refused = none_applies (refusals_again market H Settle) none in
-      reply_appends (MayBeNext market H) market H Settle reply _ settlement.printed
-      (record {
-        in_range = tt;
-        narrow = tt;
-        legal = λ is_market. is_market;
-        follows = not_faulted _ _ refused.0;
-      })
-  fit_follows Bound reply legal proper joins units none h = absurd h
-  fit_follows (Prices v condition) reply legal proper joins units none h = absurd h
-  fit_follows (Position u v condition) reply legal proper joins units none h = absurd h
-  fit_follows Status reply legal proper joins units none h = absurd h
-  fit_follows (AddCommand add) reply legal proper joins units none agrees =
+  fit_follows Settle reply legal proper bounded joins units none settlement =
+      let before = not_faulted _ _ (none_applies (refusals_again market H Settle) none).0 in
+      settles before (settled_is market H reply settlement)
+    where
+      settles : is_settled H ≡ false → SettledIs market H reply → Follows Settle reply
+      settles before (inl listed) =
+          reply_appends (MayBeNext market H) market H Settle reply _ listed.printed (record {
+            in_range = tt;
+            narrow = tt;
+            legal = λ is_market. is_market;
+            follows = (before, subst HasUnits listed.printed units);
+          })
+      settles before (inr e) =
+          reply_appends (MayBeNext market H) market H Settle reply _ e (record {
+            in_range = tt;
+            narrow = tt;
+            legal = λ is_market. is_market;
+            follows = (
+              before,
+              rule_ends_fit market H (limits_of market legal) bounded
+                  (outcome market.network H) (numbers_below (length (users H))),
+            );
+          })
+  fit_follows Bound reply legal proper bounded joins units none h = absurd h
+  fit_follows (Prices v condition) reply legal proper bounded joins units none h = absurd h
+  fit_follows (Position u v condition) reply legal proper bounded joins units none h = absurd h
+  fit_follows Status reply legal proper bounded joins units none h = absurd h
+  fit_follows (AddCommand add) reply legal proper bounded joins units none agrees =
       reply_appends (MayBeNext market H) market H (AddCommand add) reply _ agrees.1
       (record {
         in_range = longer_is_network market H add legal agrees.0 none;
@@ -294,7 +332,7 @@ pub fit_keeps_safe : (market : Market) (H : List Entry) (command : Command) (rep
 unfolding IsUnrefused
 fit_keeps_safe market H command reply joins units safe fit =
     next_is_safe market H (entry_of market H command reply) safe
-    (fit_follows market H command reply safe.legal safe.proper joins units fit.unrefused fit.agrees)
+    (fit_follows market H command reply safe.legal safe.proper safe.bounded joins units fit.unrefused fit.agrees)
 
 pub fit_is_safe : FitIsSafe
 fit_is_safe market H command reply text safe fit =

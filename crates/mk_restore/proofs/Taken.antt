@@ -34,6 +34,7 @@ use Rattle.mk_rules.proofs.Appended.{spread_appends}
 use Rattle.mk_restore.specs.Restoring.{IsTradeAt, IsSpreadAt, Agrees, refusals_again, IsFit}
 use Rattle.mk_restore.specs.Restoring.{Changes, Restores, change_of}
 use Rattle.mk_restore.specs.Laws.{AllowedFits, RunIsRestored, FrontStands}
+use Rattle.mk_command.specs.declared.command.Command.TheVariants.{Paid}
 
 -- where none of several applies, none of the first ones does
 front_is_none : {F : Type 0} (first second : List (Option F)) → first_of (first ++ second) ≡ None
@@ -78,6 +79,9 @@ none_again market H command h = at command h
         front_is_none (refusals_by_record market H (Worst u))
         (refusals_by_states market H (Worst u)) h
     at (Resolve p) h = h
+    at (Paid u) h =
+        front_is_none (refusals_by_record market H (Paid u))
+        (refusals_by_states market H (Paid u)) h
     at Settle h =
         front_is_none (refusals_by_record market H Settle) (refusals_by_states market H Settle) h
     at Bound h =
@@ -124,7 +128,7 @@ whatever (Some x) a = a
 module _ (market : Market) (H : List Entry) where
   -- the reply agrees, if it appends an entry
   abbrev AgreesIf : Command → Reply → Type 0
-  AgreesIf command reply = Appends (λ e. Agrees H command reply) market H command reply
+  AgreesIf command reply = Appends (λ e. Agrees market H command reply) market H command reply
 
   agrees_as : (command : Command) (reply known : Reply) → reply ≡ known → AgreesIf command known
       → AgreesIf command reply
@@ -134,8 +138,8 @@ module _ (market : Market) (H : List Entry) where
   quiet : (command : Command) (reply known : Reply) → reply ≡ known
       → entry_of market H command known ≡ None → AgreesIf command reply
   quiet command reply known e none =
-      reply_appends (λ x. Agrees H command reply) market H command reply known e
-      (subst (λ (o : Option Entry). IfSome o (λ x. Agrees H command reply)) (sym none) tt)
+      reply_appends (λ x. Agrees market H command reply) market H command reply known e
+      (subst (λ (o : Option Entry). IfSome o (λ x. Agrees market H command reply)) (sym none) tt)
 
   answer_agrees : (quotes : Quotes) (command : Command) (reply : Reply)
       → IsAnswer market H quotes command reply → AgreesIf command reply
@@ -178,11 +182,17 @@ module _ (market : Market) (H : List Entry) where
   answer_agrees quotes (Worst u) reply h =
       quiet (Worst u) reply _
       (value_of _ (least_gain market.network H (user_number H u) always) h).2.printed refl
+  answer_agrees quotes (Paid u) reply h = quiet (Paid u) reply _ h refl
   answer_agrees quotes (Resolve p) reply h = agrees_as (Resolve p) reply _ h (whatever _ refl)
-  answer_agrees quotes Settle reply h = agrees_as Settle reply _ h.printed (record {
-    payments = h.payments;
-    printed = refl;
-    in_order = paid_names _ (λ user payment is. is.name) 0 (users H) h.payments h.paid;
+  answer_agrees quotes Settle reply h = whatever (entry_of market H Settle reply) (record {
+    listed = λ few.
+        let listed = h.listed few in
+        record {
+          payments = listed.payments;
+          printed = listed.printed;
+          in_order = paid_names _ (λ user payment is. is.name) 0 (users H) listed.payments listed.paid;
+        };
+    summed = h.summed;
   })
   answer_agrees quotes Bound reply h = quiet Bound reply _ h.printed refl
   answer_agrees quotes (Prices v condition) reply h =

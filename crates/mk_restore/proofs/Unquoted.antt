@@ -18,6 +18,9 @@ use Rattle.mk_rules.specs.Refusals.{question_named, spread_named}
 use Rattle.mk_rules.specs.Answers.{next_history, next_quotes}
 use Rattle.mk_restore.specs.Restoring.{Agrees}
 use Rattle.mk_restore.specs.Laws.{FitQuotesNobody}
+use Rattle.mk_command.specs.declared.command.Command.TheVariants.{Paid}
+use Rattle.mk_restore.proofs.Settled.{SettledIs, settled_is}
+use Rattle.std.proofs.Common.{inl, inr}
 
 -- an entry by which nobody joins leaves the places for quotes as they were
 same_places : (H : List Entry) (o : Option Entry) → IfSome o (λ e. join_in e ≡ None)
@@ -40,7 +43,7 @@ module _ (market : Market) (H : List Entry) where
       → Unquoted command reply
   known_reply command reply known e h = subst (λ (r : Reply). Unquoted command r) (sym e) h
 
-  agreed_unquoted : (command : Command) (reply : Reply) → Agrees H command reply
+  agreed_unquoted : (command : Command) (reply : Reply) → Agrees market H command reply
       → Unquoted command reply
   agreed_unquoted (User u) reply e = known_reply (User u) reply _ e (sym (
       ap (map (λ name. None)) (users_more H u) ∙ map-append (λ name. None) (users H) (u ∷ [])))
@@ -59,11 +62,16 @@ module _ (market : Market) (H : List Entry) where
       (same_places H _
       (made _ (λ spread. refl) (spread_named market.network v condition.items)))
   agreed_unquoted (Worst u) reply h = absurd h
+  agreed_unquoted (Paid u) reply h = absurd h
   agreed_unquoted (Resolve p) reply e =
       known_reply (Resolve p) reply _ e
       (same_places H _ (made _ (λ pair. refl) (pair_named market.network p)))
-  agreed_unquoted Settle reply settlement =
-      known_reply Settle reply _ settlement.printed (same_places H (Some _) refl)
+  agreed_unquoted Settle reply settlement = settles (settled_is market H reply settlement)
+    where
+      settles : SettledIs market H reply → Unquoted Settle reply
+      settles (inl listed) =
+          known_reply Settle reply _ listed.printed (same_places H (Some _) refl)
+      settles (inr e) = known_reply Settle reply _ e (same_places H (Some _) refl)
   agreed_unquoted Bound reply h = absurd h
   agreed_unquoted (Prices v condition) reply h = absurd h
   agreed_unquoted (Position u v condition) reply h = absurd h

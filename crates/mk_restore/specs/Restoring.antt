@@ -1,6 +1,7 @@
 -- The changes that a market takes back after a restart, and the history that they give.
-use Rattle.std.specs.Prelude.{◌≡◌, ℕ, ◌+◌, List, [], ◌∷◌, ◌++◌, length, map, Option, Some, None}
+use Rattle.std.specs.Prelude.{◌≡◌, ℕ, ◌+◌, ◌<◌, ◌≤◌, List, [], ◌∷◌, ◌++◌, length, map, Option, Some, None}
 use Rattle.arrayvec.specs.ArrayVec.{ArrayVec}
+use Rattle.mk_net.specs.Bounds.{max_payments}
 use Rattle.mk_net.specs.Firsts.{first_of}
 use Rattle.mk_exact.specs.History.{Entry, users, revision}
 use Rattle.mk_exact.specs.Market.{Market, present}
@@ -16,7 +17,7 @@ use Rattle.mk_reply.specs.declared.reply.Reply.TheVariants.{Joined, Deposited, W
 use Rattle.mk_reply.specs.declared.reply.Reply.TheVariants.{Spreaded, Resolved, Settled, Added}
 use Rattle.mk_reply.specs.Replies.{IsReply, reply_text}
 use Rattle.mk_rules.specs.Refusals.{refusals_by_record, refusals}
-use Rattle.mk_rules.specs.Answers.{entry_of, next_history}
+use Rattle.mk_rules.specs.Answers.{settled_by_rule, entry_of, next_history}
 use Rattle.mk_rules.specs.Transcript.{Standing, Line, OfCommand, NoCommand, LongLine, after}
 
 -- a trade, of whatever units
@@ -31,23 +32,28 @@ pub record IsSpreadAt (at : ℕ) (shares : List ℕ) (reply : Reply) : Type 0 wh
   pub printed : reply ≡ Spreaded factors at
   pub one_each : length factors.items ≡ length shares
 
--- a settlement, of whatever payments to these users in this order
-pub record IsSettledAt (at : ℕ) (names : List (List ℕ)) (reply : Reply) : Type 0 where
+-- a settlement that lists payments, whatever they are, to these users in this order
+pub record IsListed (at : ℕ) (names : List (List ℕ)) (reply : Reply) : Type 0 where
   pub payments : List Payment
   pub printed : reply ≡ Settled at payments
   pub in_order : map (λ (p : Payment). p.user) payments ≡ names
 
+-- a settlement that lists its payments, but for more users than it may list: then these are the payments by rule
+pub record IsSettledAt (market : Market) (H : List Entry) (reply : Reply) : Type 0 where
+  pub listed : length (users H) ≤ max_payments → IsListed (revision H + 1) (users H) reply
+  pub summed : max_payments < length (users H) → reply ≡ settled_by_rule market H
+
 -- a reply that appends an entry, whose own words are those of the command and the history
-abbrev pub Agrees : List Entry → Command → Reply → Type 0
-Agrees H (User u) reply = reply ≡ Joined u (revision H + 1)
-Agrees H (Deposit u bits) reply = reply ≡ Deposited u bits (revision H + 1)
-Agrees H (Withdraw u bits) reply = reply ≡ Withdrawn u bits (revision H + 1)
-Agrees H (Edit u q X seen) reply = IsTradeAt (revision H + 1) reply
-Agrees H (Spread u v condition to seen) reply = IsSpreadAt (revision H + 1) to.items reply
-Agrees H (Resolve p) reply = reply ≡ Resolved p (revision H + 1)
-Agrees H Settle reply = IsSettledAt (revision H + 1) (users H) reply
-Agrees H (Add add) reply = IsAddText add × (reply ≡ Added add.variable (revision H + 1))
-Agrees H _ reply = ⊥
+abbrev pub Agrees : Market → List Entry → Command → Reply → Type 0
+Agrees market H (User u) reply = reply ≡ Joined u (revision H + 1)
+Agrees market H (Deposit u bits) reply = reply ≡ Deposited u bits (revision H + 1)
+Agrees market H (Withdraw u bits) reply = reply ≡ Withdrawn u bits (revision H + 1)
+Agrees market H (Edit u q X seen) reply = IsTradeAt (revision H + 1) reply
+Agrees market H (Spread u v condition to seen) reply = IsSpreadAt (revision H + 1) to.items reply
+Agrees market H (Resolve p) reply = reply ≡ Resolved p (revision H + 1)
+Agrees market H Settle reply = IsSettledAt market H reply
+Agrees market H (Add add) reply = IsAddText add × (reply ≡ Added add.variable (revision H + 1))
+Agrees market H _ reply = ⊥
 
 -- the refusals that are tried again: those by its words and by what was done; and of those by what
 -- can come the one of a resolution, which has to leave a possible state
@@ -59,7 +65,7 @@ refusals_again market H command = refusals_by_record market H command
 pub record IsFit (market : Market) (H : List Entry) (command : Command)
     (reply : Reply) : Type 0 where
   pub unrefused : first_of (refusals_again market H command) ≡ None
-  pub agrees : Agrees H command reply
+  pub agrees : Agrees market H command reply
 
 -- commands with their replies
 abbrev pub Changes : Type 0

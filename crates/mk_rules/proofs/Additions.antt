@@ -419,4 +419,8 @@ module _ (market : Market) (H : List Entry) (add : AddText) (legal : IsMarket ma
         few_points = legal.few_points;
         some_trades = legal.some_trades;
         few_trades = legal.few_trades;
+        some_users = legal.some_users;
+        few_users = legal.few_users;
+        some_transfers = legal.some_transfers;
+        few_transfers = legal.few_transfers;
       }

@@ -21,6 +21,8 @@ use Rattle.mk_rules.specs.Refusals.{question_named, spread_named, user_number}
 use Rattle.mk_rules.specs.Additions.{addition_of}
 use Rattle.mk_rules.specs.Answers.{entry_of}
 use Rattle.mk_rules.specs.Transcript.{with_entries}
+use Rattle.mk_command.specs.declared.command.Command.TheVariants.{Paid}
+use Rattle.mk_reply.specs.declared.reply.Reply.TheVariants.{SettledAll}
 
 each_adds_nothing : {X : Type 0} (market : Market) (f : X → Entry)
     → ((x : X) → with_entry (f x) market ≡ market) → (o : Option X)
@@ -67,10 +69,12 @@ adds_nothing market H (Spread u v condition to seen) (Spreaded factors _) other 
     (spread_named market.network v condition.items)
 adds_nothing market H (Spread u v condition to seen) _ other = refl
 adds_nothing market H (Worst u) _ other = refl
+adds_nothing market H (Paid u) _ other = refl
 adds_nothing market H (Resolve p) (Resolved _ _) other =
     each_adds_nothing market Resolves (λ pair. refl) (pair_named market.network p)
 adds_nothing market H (Resolve p) _ other = refl
 adds_nothing market H Settle (Settled _ _) other = refl
+adds_nothing market H Settle (SettledAll _ _ _) other = refl
 adds_nothing market H Settle _ other = refl
 adds_nothing market H Bound _ other = refl
 adds_nothing market H (Prices v condition) _ other = refl

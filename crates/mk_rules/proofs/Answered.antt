@@ -54,6 +54,13 @@ use Rattle.mk_rules.proofs.Apart.{condition_apart, target_apart}
 use Rattle.mk_rules.proofs.Spreadable.{spread_exists, can_be_spread, can_be_told}
 use Rattle.mk_rules.proofs.Quoted.{current_right, current_bounds_right}
 use Rattle.mk_rules.proofs.Ready.{step_keeps_ready}
+use Rattle.std.proofs.lemmas.Bool.{cases_lt}
+use Rattle.mk_net.specs.Bounds.{max_payments}
+use Rattle.mk_exact.specs.History.{payment_to}
+use Rattle.mk_command.specs.declared.command.Command.TheVariants.{Paid}
+use Rattle.mk_reply.specs.declared.reply.Reply.TheVariants.{Paid as PaidOut}
+use Rattle.mk_rules.specs.Answers.{IsSettling, settled_by_rule, told_payment}
+use Rattle.std.proofs.Common.{arith}
 
 -- a question that meets no refusal can be asked
 pub can_be_asked : (network : List Variable) (H : List Entry) (q : QuestionText) (asked : Asked) → IsProper network H → question_named network q ≡ Some asked → unknown network (pairs_of q) ≡ None
@@ -206,11 +213,19 @@ module _ (market : Market) (now : Standing) (is_market : IsMarket market) (ready
         (record { name = refl; covers = covers; low_end = refl }, later.1),
       )
 
-  settlement : ((v : ℕ) → v < length network → speaks_of (resolutions H) v ≡ true) → (reply : Reply) × IsSettlement network H market.points_per_bit reply
+  settlement : ((v : ℕ) → v < length network → speaks_of (resolutions H) v ≡ true) → (reply : Reply) × IsSettling market H reply
   settlement each =
       let outcome = outcome_exists network H is_market.network ready.stands.proper each in
       let paid = payments_from outcome.state (outcome.safe ready.stands.sound) 0 (users H) in
-      (Settled (revision H + 1) (paid.0), record { state = outcome.state; one_state = outcome.one_state; payments = paid.0; printed = refl; paid = paid.1 })
+      let listed : IsSettlement network H market.points_per_bit (Settled (revision H + 1) (paid.0)) =
+      record { state = outcome.state; one_state = outcome.one_state; payments = paid.0; printed = refl; paid = paid.1 } in
+      by_number (Settled (revision H + 1) (paid.0)) listed (cases_lt max_payments (length (users H)))
+    where
+      by_number : (reply : Reply) → IsSettlement network H market.points_per_bit reply
+          → (max_payments < length (users H)) ⊎ (length (users H) ≤ max_payments) → (reply : Reply) × IsSettling market H reply
+      by_number reply listed (inl many) =
+          (settled_by_rule market H, record { listed = λ few. absurd (omega arith); summed = λ more. refl })
+      by_number reply listed (inr few) = (reply, record { listed = λ fewer. listed; summed = λ many. absurd (omega arith) })
 
   answered : (command : Command) → first_refusal market H command ≡ None → HasAnswer command
   answered (User u) none = (Joined u (revision H + 1), inl refl)
@@ -266,6 +281,7 @@ module _ (market : Market) (now : Standing) (is_market : IsMarket market) (ready
           covers = covers;
         },
       ))
+  answered (Paid u) none = (PaidOut (told_payment u (payment_to H (user_number H u))), refl)
   answered (Resolve p) none = (Resolved p (revision H + 1), refl)
   answered Settle none = settlement (all_resolved network H (none_applies (refusals market H Settle) none).1.0)
   answered Bound none =

@@ -9,7 +9,7 @@ use Rattle.mk_exact.specs.Market.{Market}
 use Rattle.mk_spread.specs.Spreads.{SpreadAsked}
 use Rattle.mk_spread.specs.Bounds.{Intervals}
 use Rattle.mk_command.specs.declared.command.Command.{Command}
-use Rattle.mk_command.specs.declared.command.Command.TheVariants.{User, Deposit, Withdraw, Price, Limits, Edit, Bounds, Spread, Worst, Resolve, Settle, Bound}
+use Rattle.mk_command.specs.declared.command.Command.TheVariants.{User, Deposit, Withdraw, Price, Limits, Edit, Bounds, Spread, Worst, Resolve, Settle, Bound, Paid}
 use Rattle.mk_command.specs.declared.command.Command.TheVariants.{Prices, Position, Status, Add}
 use Rattle.mk_reply.specs.declared.refusal.Refusal.{Refusal}
 use Rattle.mk_reply.specs.declared.reply.Reply.{Reply}
@@ -33,6 +33,7 @@ refused_appends P market H (Edit u q X seen) why = tt
 refused_appends P market H (Bounds u v condition) why = tt
 refused_appends P market H (Spread u v condition to seen) why = tt
 refused_appends P market H (Worst u) why = tt
+refused_appends P market H (Paid u) why = tt
 refused_appends P market H (Resolve p) why = tt
 refused_appends P market H Settle why = tt
 refused_appends P market H Bound why = tt

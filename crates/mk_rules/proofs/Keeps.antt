@@ -52,6 +52,17 @@ use Rattle.mk_rules.proofs.Unrefused.{none_applies, user_in_range, number_in_ran
 use Rattle.mk_rules.proofs.Spreads.{spread_is, spread_not_wide, sum_is_million}
 use Rattle.mk_rules.proofs.Traded.{ratio_fits}
 use Rattle.mk_rules.proofs.Coming.{some_with_pair}
+use Rattle.mk_net.specs.Firsts.{first_of}
+use Rattle.mk_exact.specs.History.{is_settlement, is_settled}
+use Rattle.mk_exact.specs.Sides.{ratio_in}
+use Rattle.mk_exact.proofs.ExistOutcome.{outcome_exists}
+use Rattle.mk_spread.specs.Spreads.{spread_ratio}
+use Rattle.mk_command.specs.declared.command.Command.TheVariants.{Paid}
+use Rattle.mk_rules.specs.Refusals.{settled}
+use Rattle.mk_rules.specs.Additions.{addition_of}
+use Rattle.mk_rules.specs.Standings.{ArePaidOff}
+use Rattle.mk_rules.proofs.Unrefused.{not_faulted, all_resolved}
+use Rattle.mk_rules.proofs.Paying.{SettlingIs, settling_is, listed_pays_off, rule_pays_off}
 
 -- an entry that may be appended
 record Fits (market : Market) (H : List Entry) (e : Entry) : Type 0 where
@@ -59,6 +70,7 @@ record Fits (market : Market) (H : List Entry) (e : Entry) : Type 0 where
   in_range : IsInRange market.network H e
   narrow : IfSome (trade_in e) (IsInClique market.cliques)
   legal : IsMarket market → IsMarket (with_entry e market)
+  paid_off : is_settled (H ++ e ∷ []) ≡ true → ArePaidOff (with_entry e market) (H ++ e ∷ [])
 
 -- what holds of each trade before an entry and of its own holds of each trade after it
 each_trade : (P : UserTrade → Type 0) (H : List Entry) (e : Entry) → AllByRecursion P (trades H) → IfSome (trade_in e) P → AllByRecursion P (trades (H ++ e ∷ []))
@@ -67,7 +79,7 @@ each_trade P H (Deposits u bits) h k = subst (AllByRecursion P) (sym (trades_kep
 each_trade P H (Withdraws u bits) h k = subst (AllByRecursion P) (sym (trades_kept H (Withdraws u bits) refl)) h
 each_trade P H (Trade u r) h k = subst (AllByRecursion P) (sym (trades_more H u r)) (each-append P (trades H) (record { user = u; ratio = r } ∷ []) h (k, tt))
 each_trade P H (Resolves p) h k = subst (AllByRecursion P) (sym (trades_kept H (Resolves p) refl)) h
-each_trade P H Settles h k = subst (AllByRecursion P) (sym (trades_kept H Settles refl)) h
+each_trade P H (Settles paid) h k = subst (AllByRecursion P) (sym (trades_kept H (Settles paid) refl)) h
 each_trade P H (Adds a) h k = subst (AllByRecursion P) (sym (trades_kept H (Adds a) refl)) h
 
 -- what some clique holds it holds beside further cliques
@@ -129,7 +141,7 @@ module _ (market : Market) (H : List Entry) where
   inside_after (Withdraws u bits) inside narrow = inside_kept (Withdraws u bits) refl inside narrow
   inside_after (Trade u r) inside narrow = inside_kept (Trade u r) refl inside narrow
   inside_after (Resolves p) inside narrow = inside_kept (Resolves p) refl inside narrow
-  inside_after Settles inside narrow = inside_kept Settles refl inside narrow
+  inside_after (Settles paid) inside narrow = inside_kept (Settles paid) refl inside narrow
 
 entry_keeps : (market : Market) (H : List Entry) (o : Option Entry) → Stands market H
     → IfSome o (Fits market H) → Stands (with_entries o market) (H ++ option_to_list o)
@@ -143,57 +155,78 @@ entry_keeps market H (Some e) stands h =
       proper = proper_after market H e stands.proper h.in_range;
       none_wide = inside.0;
       few_added = inside.1;
+      paid_off = h.paid_off;
     }
 
 -- what a reply appends may be appended
 abbrev AppendsFit : Market → List Entry → Command → Reply → Type 0
 AppendsFit market H command reply = Appends (Fits market H) market H command reply
 
-user_fits : (market : Market) (H : List Entry) (u : List ℕ) (reply : Reply) → (reply ≡ Joined u (revision H + 1)) ⊎ (reply ≡ Refused Memory) → AppendsFit market H (User u) reply
-user_fits market H u reply (inl e) = reply_appends (Fits market H) market H (User u) reply _ e
-    (record { acceptable = tt; in_range = tt; narrow = tt; legal = λ is_market. is_market })
-user_fits market H u reply (inr e) = reply_appends (Fits market H) market H (User u) reply _ e tt
+-- behind an entry that is no settlement nothing is settled that was not
+not_yet : {X : Type 0} (H : List Entry) (e : Entry) → is_settled H ≡ false → is_settlement e ≡ false → is_settled (H ++ e ∷ []) ≡ true → X
+not_yet [] e before other now = absurd (let no : is_settled (e ∷ []) ≡ false = ap (λ (b : Bool). b || false) other in cc)
+not_yet (d ∷ H) e before other now = at (is_settlement d) before now (not_yet H e)
+  where
+    at : {X : Type 0} (b : Bool) → (b || is_settled H) ≡ false → (b || is_settled (H ++ e ∷ [])) ≡ true
+        → (is_settled H ≡ false → is_settlement e ≡ false → is_settled (H ++ e ∷ []) ≡ true → X) → X
+    at true before now rest = absurd (cc)
+    at false before now rest = rest before other now
 
-withdrawal_fits : (market : Market) (H : List Entry) (u : List ℕ) (bits g : ℕ) (reply : Reply) → least_gain market.network H (user_number H u) always ≡ Some g
+user_fits : (market : Market) (H : List Entry) (u : List ℕ) (reply : Reply) → is_settled H ≡ false → (reply ≡ Joined u (revision H + 1)) ⊎ (reply ≡ Refused Memory) → AppendsFit market H (User u) reply
+user_fits market H u reply before (inl e) = reply_appends (Fits market H) market H (User u) reply _ e
+    (record { acceptable = tt; in_range = tt; narrow = tt; legal = λ is_market. is_market; paid_off = not_yet H (Join u) before refl })
+user_fits market H u reply before (inr e) = reply_appends (Fits market H) market H (User u) reply _ e tt
+
+withdrawal_fits : (market : Market) (H : List Entry) (u : List ℕ) (bits g : ℕ) (reply : Reply) → is_settled H ≡ false → least_gain market.network H (user_number H u) always ≡ Some g
     → IsWithdrawal (IsSmall market.network H) (HoldsNoTrade H (user_number H u))
     (factor_with H (user_number H u) g) u bits (revision H + 1) reply
     → AppendsFit market H (Withdraw u bits) reply
-withdrawal_fits market H u bits g reply e (inl taken) = reply_appends (Fits market H) market H (Withdraw u bits) reply _ taken.1
+withdrawal_fits market H u bits g reply before e (inl taken) = reply_appends (Fits market H) market H (Withdraw u bits) reply _ taken.1
     (record {
       acceptable = subst (λ (o : Option ℕ). IfSome o (λ g. Covers (factor_with H (user_number H u) g) bits))
           (sym e) taken.0;
       in_range = tt;
       narrow = tt;
       legal = λ is_market. is_market;
+      paid_off = not_yet H (Withdraws (user_number H u) bits) before refl;
     })
-withdrawal_fits market H u bits g reply e (inr short) = reply_appends (Fits market H) market H (Withdraw u bits) reply _ short.printed tt
+withdrawal_fits market H u bits g reply before e (inr short) = reply_appends (Fits market H) market H (Withdraw u bits) reply _ short.printed tt
 
 trade_fits : (market : Market) (H : List Entry) (u : List ℕ) (q : QuestionText) (X : ℕ) (seen : Option ℕ) (asked : Asked) (reply : Reply)
-    → question_named market.network q ≡ Some asked → user_number H u < length (users H) → IsQuestionOf market.network asked
+    → is_settled H ≡ false → question_named market.network q ≡ Some asked → user_number H u < length (users H) → IsQuestionOf market.network asked
     → is_wide market.cliques (asked.target.variable ∷ variables_in asked.condition) ≡ false → X ≤ 999999
     → IsTrade market.network H (user_number H u) asked X reply → AppendsFit market H (Edit u q X seen) reply
-trade_fits market H u q X seen asked reply named user fits narrow most trade = reply_appends (Fits market H) market H (Edit u q X seen) reply _ trade.printed (rw named (record {
+trade_fits market H u q X seen asked reply before named user fits narrow most trade = reply_appends (Fits market H) market H (Edit u q X seen) reply _ trade.printed (rw named (record {
   acceptable = fair_pair_is_safe market.network H (user_number H u) asked X trade.hit trade.miss (omega arith) fits.target trade.fair;
   in_range = record { user = user; ratio = ratio_fits market.network asked trade.hit trade.miss fits trade.fair.hit_units.fair.positive trade.fair.miss_units.fair.positive };
   narrow = narrow;
   legal = λ is_market. is_market;
+  paid_off = not_yet H (Trade (user_number H u) (ratio_in market.network asked trade.hit trade.miss)) before refl;
 }))
 
 spread_trade_fits : (market : Market) (H : List Entry) (u v : List ℕ) (condition : ArrayVec PairText) (to : ArrayVec ℕ) (seen : Option ℕ) (spread : SpreadAsked) (reply : Reply)
-    → spread_named market.network v condition.items ≡ Some spread → user_number H u < length (users H) → IsSpreadOf market.network spread
+    → is_settled H ≡ false → spread_named market.network v condition.items ≡ Some spread → user_number H u < length (users H) → IsSpreadOf market.network spread
     → is_wide market.cliques (spread.variable ∷ variables_in spread.condition) ≡ false → sum to.items ≤ million
     → IsSpreadTrade market.network H (user_number H u) spread to.items reply → AppendsFit market H (Spread u v condition to seen) reply
-spread_trade_fits market H u v condition to seen spread reply named user fits narrow most trade =
+spread_trade_fits market H u v condition to seen spread reply before named user fits narrow most trade =
     reply_appends (Fits market H) market H (Spread u v condition to seen) reply _ trade.printed (rw named (record {
       acceptable = fair_list_is_safe market.network H (user_number H u) spread to.items trade.factors.items fits.variable trade.fair most;
       in_range = record { user = user; ratio = fair_list_is_ratio market.network H (user_number H u) spread to.items trade.factors.items trade.fair fits };
       narrow = narrow;
       legal = λ is_market. is_market;
+      paid_off = not_yet H (Trade (user_number H u) (spread_ratio spread trade.factors.items)) before refl;
     }))
 
 -- a command that meets no refusal of the table
 IsUnrefused : Market → List Entry → Command → Type 0
 IsUnrefused market H command = first_refusal market H command ≡ None
+
+-- one that is refused first where the market is settled meets one that is not
+before_settled : (market : Market) (H : List Entry) (command : Command) (rest : List (Option Refusal))
+    → refusals market H command ≡ settled H ∷ rest → IsUnrefused market H command → is_settled H ≡ false
+unfolding IsUnrefused
+before_settled market H command rest is none =
+    not_faulted _ _ (none_applies (settled H ∷ rest) (ap first_of (sym is) ∙ none)).0
 
 edit_fits : (market : Market) (H : List Entry) (quotes : Quotes) (u : List ℕ) (q : QuestionText) (X : ℕ) (seen : Option ℕ) (reply : Reply)
     → IsUnrefused market H (Edit u q X seen) → IsAnswer market H quotes (Edit u q X seen) reply → AppendsFit market H (Edit u q X seen) reply
@@ -203,7 +236,7 @@ edit_fits market H quotes u q X seen reply none h =
     let refused = none_applies (refusals market H (Edit u q X seen)) none in
     let judged = value_of _ (question_named network q) h in
     judged_appends (Fits market H) market H u q X seen judged.0 reply (current_limits (last_quote quotes (user_number H u)) judged.0 (revision H))
-    (trade_fits market H u q X seen judged.0 reply judged.1 (user_in_range H u refused.1.0) (question_known network q judged.0 refused.1.1.0 judged.1)
+    (trade_fits market H u q X seen judged.0 reply (not_faulted _ _ refused.0) judged.1 (user_in_range H u refused.1.0) (question_known network q judged.0 refused.1.1.0 judged.1)
     (not_wide market H q judged.0 judged.1 refused.1.1.1.1.1.1.1.0) (number_in_range (million - 1) X refused.1.1.1.1.1.1.1.1.0).1) judged.2
 
 spread_fits : (market : Market) (H : List Entry) (quotes : Quotes) (u v : List ℕ) (condition : ArrayVec PairText) (to : ArrayVec ℕ) (seen : Option ℕ) (reply : Reply)
@@ -215,7 +248,7 @@ spread_fits market H quotes u v condition to seen reply none h =
     let judged = value_of _ (spread_named network v condition.items) h in
     let million_in_all = sum_is_million to.items refused.1.1.1.1.1.1.1.1.1.1.1.0 in
     spread_appends (Fits market H) market H u v condition to seen judged.0 reply (current_bounds (last_quote quotes (user_number H u)) judged.0 (revision H))
-    (spread_trade_fits market H u v condition to seen judged.0 reply judged.1 (user_in_range H u refused.1.0) (spread_is network v condition.items judged.0 judged.1)
+    (spread_trade_fits market H u v condition to seen judged.0 reply (not_faulted _ _ refused.0) judged.1 (user_in_range H u refused.1.0) (spread_is network v condition.items judged.0 judged.1)
     (spread_not_wide market H v condition.items judged.0 judged.1 refused.1.1.1.1.1.1.1.1.0) (omega (arith, million_in_all))) judged.2
 
 resolve_fits : (market : Market) (H : List Entry) (p : PairText) (reply : Reply) → IsProper market.network H
@@ -229,6 +262,7 @@ resolve_fits market H p reply proper none e =
       in_range = (named.2, not_resolved market.network H p named.0 named.1 refused.1.1.0, some_with_pair market.network H proper p named.0 named.1 refused.1.1.1.0);
       narrow = tt;
       legal = λ is_market. is_market;
+      paid_off = not_yet H (Resolves named.0) (not_faulted _ _ refused.0) refl;
     }))
 
 -- a question that meets no refusal may be appended
@@ -243,18 +277,43 @@ add_fits market H add reply stands none (inl (text, e)) =
       in_range = longer_is_network market H add stands.legal text none;
       narrow = tt;
       legal = λ is_market. market_with market H add is_market text none;
+      paid_off = not_yet H (Adds (addition_of market.network add)) (not_faulted _ _ (none_applies (refusals market H (Add add)) none).0) refl;
     })
 add_fits market H add reply stands none (inr e) =
     reply_appends (Fits market H) market H (Add add) reply _ e tt
 
+-- a settlement pays off each user
+settling_fits : (market : Market) (H : List Entry) (reply : Reply) → Stands market H → IsUnrefused market H Settle
+    → SettlingIs market H reply → AppendsFit market H Settle reply
+unfolding IsUnrefused
+settling_fits market H reply stands none (inl (few, listed)) =
+    let refused = none_applies (refusals market H Settle) none in
+    reply_appends (Fits market H) market H Settle reply _ listed.printed (record {
+      acceptable = tt;
+      in_range = tt;
+      narrow = tt;
+      legal = λ is_market. is_market;
+      paid_off = λ settled. listed_pays_off market H reply listed (not_faulted _ _ refused.0);
+    })
+settling_fits market H reply stands none (inr (many, e)) =
+    let refused = none_applies (refusals market H Settle) none in
+    let left = outcome_exists market.network H stands.legal.network stands.proper (all_resolved market.network H refused.1.0) in
+    reply_appends (Fits market H) market H Settle reply _ e (record {
+      acceptable = tt;
+      in_range = tt;
+      narrow = tt;
+      legal = λ is_market. is_market;
+      paid_off = λ settled. rule_pays_off market H left.state stands (not_faulted _ _ refused.0) left.one_state;
+    })
+
 answer_fits : (market : Market) (H : List Entry) (quotes : Quotes) (command : Command) (reply : Reply) → Stands market H
     → IsUnrefused market H command → IsAnswer market H quotes command reply → AppendsFit market H command reply
-answer_fits market H quotes (User u) reply stands none h = user_fits market H u reply h
+answer_fits market H quotes (User u) reply stands none h = user_fits market H u reply (before_settled market H (User u) _ refl none) h
 answer_fits market H quotes (Deposit u bits) reply stands none h =
     reply_appends (Fits market H) market H (Deposit u bits) reply _ h
-    (record { acceptable = tt; in_range = tt; narrow = tt; legal = λ is_market. is_market })
+    (record { acceptable = tt; in_range = tt; narrow = tt; legal = λ is_market. is_market; paid_off = not_yet H (Deposits (user_number H u) bits) (before_settled market H (Deposit u bits) _ refl none) refl })
 answer_fits market H quotes (Withdraw u bits) reply stands none h = let least = value_of _ (least_gain market.network H (user_number H u) always) h in
-    withdrawal_fits market H u bits least.0 reply least.1 least.2
+    withdrawal_fits market H u bits least.0 reply (before_settled market H (Withdraw u bits) _ refl none) least.1 least.2
 answer_fits market H quotes (Price q) reply stands none h = let price = value_of _ (question_named market.network q) h in
     reply_appends (Fits market H) market H (Price q) reply _ price.2.printed tt
 answer_fits market H quotes (Limits u q) reply stands none h = let limits = value_of _ (question_named market.network q) h in
@@ -265,10 +324,10 @@ answer_fits market H quotes (Bounds u v condition) reply stands none h = let bou
 answer_fits market H quotes (Spread u v condition to seen) reply stands none h = spread_fits market H quotes u v condition to seen reply none h
 answer_fits market H quotes (Worst u) reply stands none h = let worst = value_of _ (least_gain market.network H (user_number H u) always) h in
     reply_appends (Fits market H) market H (Worst u) reply _ worst.2.printed tt
+answer_fits market H quotes (Paid u) reply stands none h = reply_appends (Fits market H) market H (Paid u) reply _ h tt
 answer_fits market H quotes (Resolve p) reply stands none h = resolve_fits market H p reply stands.proper none h
 answer_fits market H quotes Settle reply stands none h =
-    reply_appends (Fits market H) market H Settle reply _ h.printed
-    (record { acceptable = tt; in_range = tt; narrow = tt; legal = λ is_market. is_market })
+    settling_fits market H reply stands none (settling_is market H reply h)
 answer_fits market H quotes Bound reply stands none h = reply_appends (Fits market H) market H Bound reply _ h.printed tt
 answer_fits market H quotes (Prices v condition) reply stands none h =
     let told = value_of _ (spread_named market.network v condition.items) h in
@@ -354,6 +413,7 @@ opening_stands market is_market = record {
   proper = empty_proper market.network is_market.network;
   none_wide = tt;
   few_added = omega (arith, is_market.network.some);
+  paid_off = λ settled. absurd (cc);
 }
 
 pub opening_present : (market : Market) → IsMarket market → Stands (present market []) []

@@ -12,6 +12,7 @@ pub mod Appended
 pub mod Keeps
 pub mod Cashed
 pub mod Paid
+pub mod Paying
 pub mod Settling
 pub mod Risked
 pub mod Judged

@@ -39,6 +39,11 @@ use Rattle.mk_rules.proofs.Keeps.{allowed_keeps, opening_present, present_next}
 use Rattle.mk_rules.proofs.Quoted.{Each, each_set, each_pushed, each_weaker, current_right, current_bounds_right}
 use Rattle.mk_states.proofs.Sums.{each_always}
 use Rattle.mk_rules.proofs.Coming.{together_have, decided_has, sure_has, missing_has}
+use Rattle.std.specs.Prelude.{map}
+use Rattle.mk_exact.specs.ByRule.{payments_by_rule}
+use Rattle.mk_command.specs.declared.command.Command.TheVariants.{Paid}
+use Rattle.mk_rules.specs.Answers.{ends_of}
+use Rattle.mk_rules.proofs.Paying.{SettlingIs, settling_is}
 
 -- what is known of the quotes beside a history
 record AreKept (market : Market) (H : List Entry) (quotes : Quotes) : Type 0 where
@@ -238,6 +243,7 @@ module _ (market : Market) (now : Standing) (kept : AreKept market now.history n
       stays (next_quotes market now.history now.quotes (Spread u v condition to seen) (Refused why))
       (subst (AreKept market now.history) (sym (spread_refused market now.history now.quotes u v condition to seen why h)) kept)
   refused_kept (Worst u) why h = stays now.quotes kept
+  refused_kept (Paid u) why h = stays now.quotes kept
   refused_kept (Resolve p) why h = stays now.quotes kept
   refused_kept Settle why h = stays now.quotes kept
   refused_kept Bound why h = stays now.quotes kept
@@ -347,8 +353,16 @@ module _ (market : Market) (now : Standing) (kept : AreKept market now.history n
       spread_judged_kept u v condition to seen judged.0 reply judged.1
       (current_bounds (last_quote now.quotes (user_number now.history u)) judged.0 (revision now.history)) refl judged.2
   answer_kept (Worst u) reply h = reply_kept market now (Worst u) reply _ (value_of _ (least_gain market.network now.history (user_number now.history u) always) h).2.printed (stays now.quotes kept)
+  answer_kept (Paid u) reply h = reply_kept market now (Paid u) reply _ h (stays now.quotes kept)
   answer_kept (Resolve p) reply h = reply_kept market now (Resolve p) reply _ h (after_some _ (mapped (λ (e : Entry). join_in e ≡ None) _ (λ pair. refl) (pair_named market.network p)))
-  answer_kept Settle reply h = reply_kept market now Settle reply _ h.printed (after_some (Some Settles) refl)
+  answer_kept Settle reply h = settled (settling_is market now.history reply h)
+    where
+      settled : SettlingIs market now.history reply → KeptAfter market now Settle reply
+      settled (inl (few, listed)) =
+          reply_kept market now Settle reply _ listed.printed (after_some (Some (Settles (map ends_of listed.payments))) refl)
+      settled (inr (many, e)) =
+          reply_kept market now Settle reply _ e
+          (after_some (Some (Settles (payments_by_rule market.network now.history market.points_per_bit))) refl)
   answer_kept Bound reply h = reply_kept market now Bound reply _ h.printed (stays now.quotes kept)
   answer_kept (Prices v condition) reply h =
       let told = value_of _ (spread_named market.network v condition.items) h in

@@ -29,7 +29,7 @@ kinds (Deposit user bits ∷ H) = omega (arith, kinds H, count_first is_transfer
 kinds (Withdraw user bits ∷ H) = omega (arith, kinds H, count_first is_transfer (Withdraw user bits) H)
 kinds (Trade user ratio ∷ H) = omega (arith, kinds H)
 kinds (Resolve pair ∷ H) = omega (arith, kinds H)
-kinds (Settle ∷ H) = omega (arith, kinds H, count_first is_settlement Settle H)
+kinds (Settle payments ∷ H) = omega (arith, kinds H, count_first is_settlement (Settle payments) H)
 kinds (Add addition ∷ H) = omega (arith, kinds H)
 
 -- no two pairs that are apart have one variable

@@ -77,6 +77,14 @@ use Rattle.mk_rules.proofs.Spreadable.{as_many_shares, can_be_told}
 use Rattle.mk_rules.proofs.Quoted.{current_right, current_bounds_right}
 use Rattle.mk_rules.proofs.Revisions.{revision_fits}
 use Rattle.mk_rules.proofs.Answered.{can_be_asked}
+use Rattle.std.specs.Prelude.{slice_get}
+use Rattle.mk_net.specs.Bounds.{max_payments}
+use Rattle.mk_exact.specs.History.{payments, or_nothing}
+use Rattle.mk_command.specs.declared.command.Command.TheVariants.{Paid}
+use Rattle.mk_cash.proofs.Sums.{payments_by_rule_fit}
+use Rattle.mk_rules.specs.Bounded.{FitPayment}
+use Rattle.mk_rules.proofs.Paying.{SettlingIs, settling_is}
+use Rattle.std.proofs.Common.{zero, suc}
 
 pair_fault : (f : PairText → Refusal) → ((p : PairText) → IsPairText p → IsRefusal (f p)) → (o : Option PairText) → IfSome o IsPairText → IfSome (option_map f o) IsRefusal
 pair_fault f each None h = tt
@@ -189,6 +197,12 @@ payments_have network H b s fits n (name ∷ names) (payment ∷ payments) named
 reply_has : (reply known : Reply) → reply ≡ known → IsReply known → IsReply reply
 reply_has reply known e h = subst (λ (r : Reply). IsReply r) (sym e) h
 
+-- each payment fits, and so does none
+payment_fits : (paid : List (ℕ × ℕ)) (u : ℕ) → AllByRecursion FitPayment paid → FitPayment (or_nothing (slice_get paid u))
+payment_fits [] u h = record { low = omega arith; high = omega arith }
+payment_fits (ends ∷ paid) zero h = h.0
+payment_fits (ends ∷ paid) (suc u) h = payment_fits paid u h.1
+
 module _ (market : Market) (now : Standing) (is_market : IsMarket market) (ready : IsReady market now) (bounded : IsBounded market now.history) where
   abbrev network : List Variable
   network = market.network
@@ -287,9 +301,10 @@ module _ (market : Market) (now : Standing) (is_market : IsMarket market) (ready
       )
 
   refused_has : (command : Command) → IsCommand command → IfSome (first_refusal market H command) IsRefusal
-  refused_has (User u) text = first_has (refusals market H (User u)) (faulted _ _ tt, (faulted _ _ text, (faulted _ _ refl, tt)))
-  refused_has (Deposit u bits) text = first_has (refusals market H (Deposit u bits)) (faulted _ _ tt, (faulted _ _ text.0, (faulted _ _ (omega (arith, text.1)), (faulted _ _ (omega arith), tt))))
-  refused_has (Withdraw u bits) text = first_has (refusals market H (Withdraw u bits)) (faulted _ _ tt, (faulted _ _ text.0, (faulted _ _ (omega (arith, text.1)), (faulted _ _ (omega arith), tt))))
+  refused_has (User u) text = first_has (refusals market H (User u))
+      (faulted _ _ tt, (faulted _ _ text, (faulted _ _ (record { positive = is_market.some_users; most = is_market.few_users }), tt)))
+  refused_has (Deposit u bits) text = first_has (refusals market H (Deposit u bits)) (faulted _ _ tt, (faulted _ _ text.0, (faulted _ _ (omega (arith, text.1)), (faulted _ _ (omega (arith, is_market.few_transfers)), tt))))
+  refused_has (Withdraw u bits) text = first_has (refusals market H (Withdraw u bits)) (faulted _ _ tt, (faulted _ _ text.0, (faulted _ _ (omega (arith, text.1)), (faulted _ _ (omega (arith, is_market.few_transfers)), tt))))
   refused_has (Price q) text =
       let pairs = pairs_are q text in
       first_has (refusals market H (Price q))
@@ -338,6 +353,7 @@ module _ (market : Market) (now : Standing) (is_market : IsMarket market) (ready
         ),
       )
   refused_has (Spread u v condition to seen) text = spread_refused u v condition to seen text
+  refused_has (Paid u) text = first_has (refusals market H (Paid u)) (faulted _ _ tt, (faulted _ _ text, tt))
   refused_has (Worst u) text = first_has (refusals market H (Worst u)) (faulted _ _ tt, (faulted _ _ text, tt))
   refused_has (Resolve p) text = first_has (refusals market H (Resolve p)) (faulted _ _ tt, (unknown_has network (p ∷ []) (text, tt), (faulted _ _ text.variable, (together_have IsRefusal network H [] (p ∷ []) (text, tt), tt))))
   refused_has Settle text = first_has (refusals market H Settle) (faulted _ _ tt, (unresolved_has network H is_market.network, tt))
@@ -397,8 +413,8 @@ module _ (market : Market) (now : Standing) (is_market : IsMarket market) (ready
   withdrawal_has u bits g reply named short (inl taken) = reply_has reply _ taken.1 (named, omega (arith, short), next)
   withdrawal_has u bits g reply named short (inr less) = reply_has reply _ less.printed (omega (arith, short, less.less))
 
-  settlement_has : (reply : Reply) → IsSettlement network H market.points_per_bit reply → IsReply reply
-  settlement_has reply settlement =
+  settlement_has : (reply : Reply) → length (users H) ≤ max_payments → IsSettlement network H market.points_per_bit reply → IsReply reply
+  settlement_has reply listed settlement =
       let each : AllByRecursion HasText settlement.payments = payments_have network H
       market.points_per_bit settlement.state
       (λ u low high covers. cash_fits (IsSmall network H) (HoldsNoTrade H u) H u settlement.state
@@ -407,7 +423,15 @@ module _ (market : Market) (now : Standing) (is_market : IsMarket market) (ready
       let many : length settlement.payments ≡ length (users H) = AllZip-long
       (IsPayment network H market.points_per_bit settlement.state) (enumerate_from 0 (users H))
       settlement.payments settlement.paid ∙ length-enumerate_from 0 (users H) in
-      reply_has reply _ settlement.printed (next, record { few = omega (arith, bounded.few_users); each = All-from_recursion HasText settlement.payments each })
+      reply_has reply _ settlement.printed (next, record { few = omega (arith, listed); each = All-from_recursion HasText settlement.payments each })
+
+  settling_has : (reply : Reply) → SettlingIs market H reply → IsReply reply
+  settling_has reply (inl (few, listed)) = settlement_has reply few listed
+  settling_has reply (inr (many, e)) = reply_has reply _ e (
+    next,
+    record { many = many; most = omega (arith, bounded.few_users, is_market.few_users) },
+    payments_by_rule_fit network H market.points_per_bit bounded.within is_market.few_points,
+  )
 
   answer_has : (command : Command) (reply : Reply) → IsCommand command → first_refusal market H command ≡ None → IsAnswer market H now.quotes command reply → IsReply reply
   answer_has (User u) reply text none (inl e) = reply_has reply _ e (text, next)
@@ -446,8 +470,11 @@ module _ (market : Market) (now : Standing) (is_market : IsMarket market) (ready
       (user_number H u) always least.0 market.points_per_bit least.2.low least.2.high
       bounded.within is_market.few_points least.1 least.2.covers in
       reply_has reply _ least.2.printed (omega (arith, high, least.2.covers.above, least.2.covers.below), high)
+  answer_has (Paid u) reply text none h =
+      let fits = payment_fits (payments H) (user_number H u) bounded.payments_fit in
+      reply_has reply _ h (record { user = text; low = fits.low; high = fits.high; paid = refl })
   answer_has (Resolve p) reply text none h = reply_has reply _ h (text, next)
-  answer_has Settle reply text none h = settlement_has reply h
+  answer_has Settle reply text none h = settling_has reply (settling_is market H reply h)
   answer_has Bound reply text none h =
       let least = value_of _ (least_weight network H) h.covers in
       let high = bound_fits network H market.points_per_bit least.0 h.low h.high is_market.network is_market.few_points least.1 least.2 in

@@ -67,6 +67,8 @@ full_market = record {
   cliques = (0 ∷ []) ∷ [];
   points_per_bit = 100;
   max_trades = 1000;
+  max_users = 256;
+  max_transfers = 65536;
   zeros = false;
 }
 
@@ -79,12 +81,14 @@ twelve cliques = record {
   cliques = replicate cliques (range_with_len 0 12);
   points_per_bit = 100;
   max_trades = 1000;
+  max_users = 256;
+  max_transfers = 65536;
   zeros = false;
 }
 
 -- where two refusals apply, this one of them comes first: for each two neighbours of the list
 pub record AddsInOrder : Type 0 where
-  pub settled : first_refusal full_market (Settles ∷ []) (wind_with (halves ∷ [])) ≡ Some IsSettled
+  pub settled : first_refusal full_market (Settles [] ∷ []) (wind_with (halves ∷ [])) ≡ Some IsSettled
   pub full : first_refusal full_market [] (add_of (codes "coin") a_b [] (halves ∷ [])
       (codes "coin" ∷ []) 1) ≡ Some (Variables 256)
   pub taken : first_refusal coin_market [] (add_of (codes "coin") (codes "a" ∷ codes "a" ∷ []) []

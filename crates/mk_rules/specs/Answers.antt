@@ -1,16 +1,18 @@
 -- The replies that a market allows to a command, the entry that a reply appends, and the quotes that it sets.
-use Rattle.std.specs.Prelude.{◌≡◌, ℕ, ◌+◌, ◌<◌, List, [], ◌∷◌, ◌++◌, Option, Some, None, option_map, option_to_list, IsSomeAnd, MatchOption, slice_set, ◌⊎◌}
+use Rattle.std.specs.Prelude.{◌≡◌, ℕ, ◌+◌, ◌<◌, List, [], ◌∷◌, ◌++◌, ◌≤◌, length, map, Option, Some, None, option_map, option_to_list, IsSomeAnd, MatchOption, slice_set, ◌⊎◌}
 use Rattle.std.specs.List.{AllZip, enumerate_from}
 use Rattle.mk_net.specs.declared.words.PairText.{PairText}
 use Rattle.mk_net.specs.declared.words.QuestionText.{QuestionText}
+use Rattle.mk_net.specs.Bounds.{max_payments}
 use Rattle.mk_net.specs.Network.{Variable}
 use Rattle.mk_net.specs.Named.{pair_named}
 use Rattle.mk_net.specs.Asked.{Asked}
 use Rattle.mk_states.specs.InitialWeight.{initial_total}
 use Rattle.mk_states.specs.Events.{always}
-use Rattle.mk_exact.specs.History.{Entry, Join, Deposit as Deposits, Withdraw as Withdraws, Trade, Resolve as Resolves, Settle as Settles, Add as Adds, users, revision}
+use Rattle.mk_exact.specs.History.{Entry, Join, Deposit as Deposits, Withdraw as Withdraws, Trade, Resolve as Resolves, Settle as Settles, Add as Adds, users, revision, payment_to}
 use Rattle.mk_exact.specs.Weight.{IsSmall, possible_states}
 use Rattle.mk_exact.specs.Factors.{Fraction, HoldsNoTrade, factor, factor_with, least_gain}
+use Rattle.mk_exact.specs.ByRule.{payments_by_rule, paid_in_all}
 use Rattle.mk_exact.specs.Prices.{CoversPrice, exact_price}
 use Rattle.mk_exact.specs.Cash.{CoversCash}
 use Rattle.mk_exact.specs.Risk.{least_weight, CoversBound}
@@ -23,13 +25,13 @@ use Rattle.mk_spread.specs.Bounds.{Intervals, InsideEach}
 use Rattle.mk_spread.specs.Markets.{AreRightBoundsOf, IsFairList}
 use Rattle.arrayvec.specs.ArrayVec.{ArrayVec}
 use Rattle.mk_command.specs.declared.command.Command.{Command}
-use Rattle.mk_command.specs.declared.command.Command.TheVariants.{User, Deposit, Withdraw, Price, Limits, Edit, Bounds, Spread, Worst, Resolve, Settle, Bound}
+use Rattle.mk_command.specs.declared.command.Command.TheVariants.{User, Deposit, Withdraw, Price, Limits, Edit, Bounds, Spread, Worst, Resolve, Settle, Bound, Paid}
 use Rattle.mk_command.specs.declared.command.Command.TheVariants.{Prices, Position, Status, Add}
 use Rattle.mk_addition.specs.Adds.{IsAddText}
 use Rattle.mk_reply.specs.declared.refusal.Refusal.TheVariants.{Beyond, Outside, Short, Memory}
 use Rattle.mk_reply.specs.declared.payments.Payment.{Payment}
 use Rattle.mk_reply.specs.declared.reply.Reply.{Reply}
-use Rattle.mk_reply.specs.declared.reply.Reply.TheVariants.{Joined, Deposited, Withdrawn, Price as Priced, Limits as Limited, Traded, Bounded, Spreaded, Worst as Worsted, Resolved, Settled, Bound as Risked, Added, Refused}
+use Rattle.mk_reply.specs.declared.reply.Reply.TheVariants.{Joined, Deposited, Withdrawn, Price as Priced, Limits as Limited, Traded, Bounded, Spreaded, Worst as Worsted, Resolved, Settled, SettledAll, Paid as PaidOut, Bound as Risked, Added, Refused}
 use Rattle.mk_reply.specs.Refusals.{given_in}
 use Rattle.mk_rules.specs.Told.{ArePrices, IsPosition, status_of}
 use Rattle.mk_rules.specs.Refusals.{question_named, spread_named, user_number, first_refusal}
@@ -145,6 +147,24 @@ pub record IsSettlement (network : List Variable) (H : List Entry) (points_per_b
   pub printed : reply ≡ Settled (revision H + 1) payments
   pub paid : AllZip (IsPayment network H points_per_bit state) (enumerate_from 0 (users H)) payments
 
+-- a settlement that lists no payments: they are those by rule, and it tells how many users there are and what all are paid
+abbrev pub settled_by_rule : Market → List Entry → Reply
+settled_by_rule market H =
+    SettledAll (revision H + 1) (length (users H)) (paid_in_all (payments_by_rule market.network H market.points_per_bit))
+
+-- a settlement lists its payments, but for more users than it may list
+pub record IsSettling (market : Market) (H : List Entry) (reply : Reply) : Type 0 where
+  pub listed : length (users H) ≤ max_payments → IsSettlement market.network H market.points_per_bit reply
+  pub summed : max_payments < length (users H) → reply ≡ settled_by_rule market H
+
+-- the two ends of a payment that is told
+abbrev pub ends_of : Payment → ℕ × ℕ
+ends_of payment = (payment.low, payment.high)
+
+-- a payment as it is told: the low end is paid
+abbrev pub told_payment : List ℕ → ℕ × ℕ → Payment
+told_payment u ends = record { user = u; low = ends.0; high = ends.1; paid = ends.0 }
+
 -- an interval that covers the most that the operator can lose
 pub record IsBound (network : List Variable) (H : List Entry) (points_per_bit : ℕ) (reply : Reply) : Type 0 where
   pub low : ℕ
@@ -188,7 +208,8 @@ IsAnswer market H quotes (Worst u) reply =
     (λ g. IsWorst (IsSmall network H) (HoldsNoTrade H n) (factor_with H n g)
     market.points_per_bit reply)
 IsAnswer market H quotes (Resolve p) reply = reply ≡ Resolved p (revision H + 1)
-IsAnswer market H quotes Settle reply = IsSettlement market.network H market.points_per_bit reply
+IsAnswer market H quotes (Paid u) reply = reply ≡ PaidOut (told_payment u (payment_to H (user_number H u)))
+IsAnswer market H quotes Settle reply = IsSettling market H reply
 IsAnswer market H quotes Bound reply = IsBound market.network H market.points_per_bit reply
 IsAnswer market H quotes (Prices v condition) reply =
     let network = market.network in
@@ -217,7 +238,8 @@ entry_of market H (Edit u q X seen) (Traded hit miss _) =
 entry_of market H (Spread u v condition to seen) (Spreaded factors _) =
     option_map (λ spread. Trade (user_number H u) (spread_ratio spread factors.items)) (spread_named market.network v condition.items)
 entry_of market H (Resolve p) (Resolved _ _) = option_map Resolves (pair_named market.network p)
-entry_of market H Settle (Settled _ _) = Some Settles
+entry_of market H Settle (Settled _ payments) = Some (Settles (map ends_of payments))
+entry_of market H Settle (SettledAll _ _ _) = Some (Settles (payments_by_rule market.network H market.points_per_bit))
 entry_of market H (Add add) (Added _ _) = Some (Adds (addition_of market.network add))
 entry_of market H _ _ = None
 

@@ -7,11 +7,11 @@ use Rattle.mk_net.specs.Asked.{Asked}
 use Rattle.mk_exact.specs.History.{Entry, Join, Deposit as Deposits, Withdraw as Withdraws, Resolve as Resolves, Settle as Settles}
 use Rattle.mk_exact.specs.Market.{Market}
 use Rattle.mk_exact.specs.Examples.{coin, die, weather, chain, is, ask, alice, deposited_one, heads_taken, rain_taken}
-use Rattle.mk_command.specs.declared.command.Command.TheVariants.{User, Deposit, Withdraw, Price, Limits, Edit, Worst, Resolve, Settle}
-use Rattle.mk_reply.specs.declared.refusal.Refusal.TheVariants.{Settled as IsSettled, User as NoUser, Exists, Users, Unknown, Twice, Stale, Resolved, Impossible, Wide, Range, Full, Beyond, Short, Unresolved, Memory}
+use Rattle.mk_command.specs.declared.command.Command.TheVariants.{User, Deposit, Withdraw, Price, Limits, Edit, Worst, Resolve, Settle, Paid}
+use Rattle.mk_reply.specs.declared.refusal.Refusal.TheVariants.{Settled as IsSettled, User as NoUser, Exists, Users, Unknown, Twice, Stale, Resolved, Impossible, Wide, Range, Full, Beyond, Short, Unresolved, Unsettled, Memory}
 use Rattle.mk_reply.specs.declared.payments.Payment.{Payment}
 use Rattle.mk_reply.specs.declared.reply.Reply.{Reply}
-use Rattle.mk_reply.specs.declared.reply.Reply.TheVariants.{Joined, Deposited, Withdrawn, Price as Priced, Limits as Limited, Traded, Worst as Worsted, Resolved as NowResolved, Settled, Refused}
+use Rattle.mk_reply.specs.declared.reply.Reply.TheVariants.{Joined, Deposited, Withdrawn, Price as Priced, Limits as Limited, Traded, Worst as Worsted, Resolved as NowResolved, Settled, SettledAll, Paid as PaidOut, Refused}
 use Rattle.mk_rules.specs.Refusals.{first_refusal}
 use Rattle.mk_rules.specs.Quotes.{Quote, EditLimits, last_quote, current_limits}
 use Rattle.mk_rules.specs.Answers.{IsAllowed, next_history, next_quotes}
@@ -20,16 +20,16 @@ use Rattle.mk_rules.specs.Transcript.{Standing, opening, Line, OfCommand, Run}
 
 -- a coin; a coin whose market takes one trade; a die; the weather; and a chain of three
 abbrev pub coin_market : Market
-coin_market = record { network = coin; cliques = (0 ∷ []) ∷ []; points_per_bit = 100; max_trades = 1000; zeros = false }
+coin_market = record { network = coin; cliques = (0 ∷ []) ∷ []; points_per_bit = 100; max_trades = 1000; max_users = 256; max_transfers = 65536; zeros = false }
 
 abbrev pub one_trade : Market
-one_trade = record { network = coin; cliques = (0 ∷ []) ∷ []; points_per_bit = 100; max_trades = 1; zeros = false }
+one_trade = record { network = coin; cliques = (0 ∷ []) ∷ []; points_per_bit = 100; max_trades = 1; max_users = 256; max_transfers = 65536; zeros = false }
 
 abbrev pub die_market : Market
-die_market = record { network = die; cliques = (0 ∷ []) ∷ []; points_per_bit = 100; max_trades = 1000; zeros = false }
+die_market = record { network = die; cliques = (0 ∷ []) ∷ []; points_per_bit = 100; max_trades = 1000; max_users = 256; max_transfers = 65536; zeros = false }
 
 abbrev pub weather_market : Market
-weather_market = record { network = weather; cliques = (0 ∷ 1 ∷ []) ∷ (0 ∷ []) ∷ []; points_per_bit = 100; max_trades = 1000; zeros = false }
+weather_market = record { network = weather; cliques = (0 ∷ 1 ∷ []) ∷ (0 ∷ []) ∷ []; points_per_bit = 100; max_trades = 1000; max_users = 256; max_transfers = 65536; zeros = false }
 
 abbrev pub chain_market : Market
 chain_market = record {
@@ -37,6 +37,8 @@ chain_market = record {
   cliques = (0 ∷ 1 ∷ []) ∷ (1 ∷ 2 ∷ []) ∷ (2 ∷ []) ∷ [];
   points_per_bit = 100;
   max_trades = 1000;
+  max_users = 256;
+  max_transfers = 65536;
   zeros = false;
 }
 
@@ -81,7 +83,7 @@ abbrev pub heads_up : List Entry
 heads_up = both_joined ++ Resolves (is 0 0) ∷ []
 
 abbrev pub all_paid : List Entry
-all_paid = heads_up ++ Settles ∷ []
+all_paid = heads_up ++ Settles ((126, 126) ∷ (0, 0) ∷ []) ∷ []
 
 -- after a trade on rain the season turns out dry
 abbrev pub dry : List Entry
@@ -182,7 +184,9 @@ pub record ComeInOrder : Type 0 where
   pub worst_settled : first_refusal coin_market all_paid (Worst zed) ≡ Some IsSettled
   pub resolve_settled : first_refusal coin_market all_paid (Resolve side) ≡ Some IsSettled
   pub resolve_unknown : first_refusal coin_market heads_up (Resolve side) ≡ Some (Unknown side)
-  pub settle_settled : first_refusal coin_market (Settles ∷ []) Settle ≡ Some IsSettled
+  pub settle_settled : first_refusal coin_market (Settles [] ∷ []) Settle ≡ Some IsSettled
+  pub paid_unsettled : first_refusal coin_market heads_up (Paid zed) ≡ Some Unsettled
+  pub paid_no_user : first_refusal coin_market all_paid (Paid zed) ≡ Some (NoUser zed)
 
 -- replies that are allowed, and replies that are not
 pub record AreAnswered : Type 0 where
@@ -237,7 +241,7 @@ abbrev pub settled_with : List Payment → Reply
 settled_with payments = Settled 6 payments
 
 -- heads came up: alice is paid 126 points and bob, who holds no trade, none, in this order; no
--- wider interval will do, and no point less
+-- wider interval will do, and no point less; it is told again later
 pub record IsPaid : Type 0 where
   pub allowed : IsAllowed coin_market heads_up [] Settle (settled_with (paying alice 126 126 126 ∷ paying bob 0 0 0 ∷ []))
   pub not_wide : IsAllowed coin_market heads_up [] Settle
@@ -251,6 +255,10 @@ pub record IsPaid : Type 0 where
   pub not_one : IsAllowed coin_market heads_up [] Settle (settled_with (paying alice 126 126 126 ∷ [])) → ⊥
   pub appended : next_history coin_market heads_up Settle (settled_with (paying alice 126 126 126 ∷ paying bob 0 0 0 ∷ [])) ≡ all_paid
   pub in_order : IsAllowed coin_market heads_up [] Settle (settled_with (paying bob 0 0 0 ∷ paying alice 126 126 126 ∷ [])) → ⊥
+  pub not_summed : IsAllowed coin_market heads_up [] Settle (SettledAll 6 2 126) → ⊥
+  pub told_alice : IsAllowed coin_market all_paid [] (Paid alice) (PaidOut (paying alice 126 126 126))
+  pub told_bob : IsAllowed coin_market all_paid [] (Paid bob) (PaidOut (paying bob 0 0 0))
+  pub not_told : IsAllowed coin_market all_paid [] (Paid alice) (PaidOut (paying alice 126 127 126)) → ⊥
 
 -- a quote for a question under two conditions
 abbrev pub under_both : Asked

@@ -20,7 +20,7 @@ use Rattle.mk_reply.specs.Replies.{IsReply}
 use Rattle.mk_reply.specs.declared.refusal.Refusal.{Refusal}
 use Rattle.mk_reply.specs.declared.payments.Payment.{Payment}
 use Rattle.mk_reply.specs.declared.reply.Reply.{Reply}
-use Rattle.mk_reply.specs.declared.reply.Reply.TheVariants.{Traded, Spreaded, Settled, Bound as Risked, Refused}
+use Rattle.mk_reply.specs.declared.reply.Reply.TheVariants.{Traded, Spreaded, Settled, SettledAll, Bound as Risked, Refused}
 use Rattle.mk_rules.specs.Refusals.{question_named, spread_named, user_number, first_refusal}
 use Rattle.mk_rules.specs.Quotes.{Interval, no_quotes, last_quote, current_limits, current_bounds}
 use Rattle.mk_rules.specs.Transcript.{Standing, opening, Line, OfCommand, IsAllowedFor, after, market_after, Run}
@@ -124,21 +124,22 @@ RunIsBounded = (market : Market) (new : Standing) (lines : List Line) (replies :
 abbrev pub paid_by : List Payment → List ℕ
 paid_by payments = map (λ (p : Payment). p.paid) payments
 
--- in the one possible state the payments cost the operator at most the bound
-pub record CostsAtMost (market : Market) (H : List Entry) (payments : List Payment) : Type 0 where
+-- in the one possible state what is paid costs the operator at most the bound
+pub record CostsAtMost (market : Market) (H : List Entry) (paid : List ℕ) : Type 0 where
   pub state : List ℕ
   pub one_state : possible_states market.network H always ≡ state ∷ []
-  pub bounded : LossIsBounded market.network H market.points_per_bit state (paid_by payments)
-
--- a settlement that is allowed does
-abbrev pub SettlementKeeps : Type 0
-SettlementKeeps = (market : Market) (now : Standing) (line : Line) (at : ℕ) (payments : List Payment) → Stands market now.history
-    → IsAllowedFor market now line (Settled at payments) → CostsAtMost market now.history payments
+  pub bounded : LossIsBounded market.network H market.points_per_bit state paid
 
 -- what a reply pays costs the operator at most the bound, by the history that a run leaves; only a settlement pays
 abbrev pub PaysWithin : Market → List Entry → Reply → Type 0
-PaysWithin market H (Settled at payments) = CostsAtMost market H payments
+PaysWithin market H (Settled at payments) = CostsAtMost market H (paid_by payments)
+PaysWithin market H (SettledAll at users total) = CostsAtMost market H (total ∷ [])
 PaysWithin market H _ = ⊤
+
+-- an allowed settlement does
+abbrev pub SettlementKeeps : Type 0
+SettlementKeeps = (market : Market) (now : Standing) (line : Line) (reply : Reply) → Stands market now.history
+    → IsAllowedFor market now line reply → PaysWithin market now.history reply
 
 -- in each run from the opening, so do the payments of each settlement
 abbrev pub RunSettles : Type 0
@@ -188,17 +189,23 @@ SpreadOneKind = (market : Market) (now : Standing) (u v : List ℕ) (condition :
     → IsAllowedFor market now (OfCommand (Spread u v condition to seen)) first → IsAllowedFor market now (OfCommand (Spread u v condition to seen)) second
     → IsTraded first ↔ IsTraded second
 
--- what the payments of a settlement and all withdrawals cost beyond all deposits, in points, is at most so much
-pub record CostsNoMoreThan (market : Market) (H : List Entry) (payments : List Payment) (most : ℕ) : Type 0 where
-  pub bound : sum (paid_by payments) + market.points_per_bit * sum_by (withdrawn H) (numbers_below (length (users H)))
+-- what is paid at a settlement and all withdrawals cost beyond all deposits, in points, is at most so much
+pub record CostsNoMoreThan (market : Market) (H : List Entry) (paid : List ℕ) (most : ℕ) : Type 0 where
+  pub bound : sum paid + market.points_per_bit * sum_by (withdrawn H) (numbers_below (length (users H)))
       ≤ market.points_per_bit * sum_by (deposited H) (numbers_below (length (users H))) + most
+
+-- so does what a reply pays
+abbrev pub PaysNoMoreThan : Market → List Entry → ℕ → Reply → Type 0
+PaysNoMoreThan market H most (Settled at payments) = CostsNoMoreThan market H (paid_by payments) most
+PaysNoMoreThan market H most (SettledAll at users total) = CostsNoMoreThan market H (total ∷ []) most
+PaysNoMoreThan market H most _ = ⊤
 
 -- whatever comes behind an allowed reply to `bound`, but for added questions, an allowed settlement costs no more than the
 -- reply's high end
 abbrev pub BoundIsKept : Type 0
-BoundIsKept = (market : Market) (middle new : Standing) (first second : List Line) (replies more : List Reply) (low high at : ℕ) (payments : List Payment)
+BoundIsKept = (market : Market) (middle new : Standing) (first second : List Line) (replies more : List Reply) (low high : ℕ) (reply : Reply)
     → IsMarket market → Run market opening first replies middle
     → IsAllowedFor (present market middle.history) middle (OfCommand Bound) (Risked low high)
     → Run market middle second more new → additions new.history ≡ additions middle.history
-    → IsAllowedFor (present market new.history) new (OfCommand Settle) (Settled at payments)
-    → CostsNoMoreThan market new.history payments high
+    → IsAllowedFor (present market new.history) new (OfCommand Settle) reply
+    → PaysNoMoreThan market new.history high reply

@@ -6,7 +6,7 @@ use Rattle.std.specs.List.{list_all, list_any, position_or_len, enumerate_from, 
 use Rattle.mk_net.specs.declared.words.Pair.{Pair}
 use Rattle.mk_net.specs.declared.words.PairText.{PairText}
 use Rattle.mk_net.specs.declared.words.QuestionText.{QuestionText}
-use Rattle.mk_net.specs.Bounds.{max_users, max_transfers, max_transfer_bits, million}
+use Rattle.mk_net.specs.Bounds.{max_transfer_bits, million}
 use Rattle.mk_net.specs.Texts.{same_text}
 use Rattle.mk_net.specs.Network.{Variable}
 use Rattle.mk_net.specs.Named.{pair_named, variable_named, variable_at}
@@ -23,10 +23,10 @@ use Rattle.mk_rules.specs.Additions.{variables_full, taken, nobody_named, no_lin
 use Rattle.mk_rules.specs.Additions.{not_running, row_count, row_width, most_share, shares_of}
 use Rattle.mk_rules.specs.Additions.{row_sum, too_large}
 use Rattle.mk_command.specs.declared.command.Command.{Command}
-use Rattle.mk_command.specs.declared.command.Command.TheVariants.{User, Deposit, Withdraw, Price, Limits, Edit, Bounds, Spread, Worst, Resolve, Settle, Bound}
+use Rattle.mk_command.specs.declared.command.Command.TheVariants.{User, Deposit, Withdraw, Price, Limits, Edit, Bounds, Spread, Worst, Resolve, Settle, Bound, Paid}
 use Rattle.mk_command.specs.declared.command.Command.TheVariants.{Prices, Position, Status, Add}
 use Rattle.mk_reply.specs.declared.refusal.Refusal.{Refusal}
-use Rattle.mk_reply.specs.declared.refusal.Refusal.TheVariants.{Settled, User as NoUser, Exists, Users, Unknown, Twice, Stale, Resolved, Impossible, Wide, Range, Full, Unresolved, NoVariable, ValueTwice, Numbers, Sum, Sure}
+use Rattle.mk_reply.specs.declared.refusal.Refusal.TheVariants.{Settled, User as NoUser, Exists, Users, Unknown, Twice, Stale, Resolved, Impossible, Wide, Range, Full, Unresolved, Unsettled, NoVariable, ValueTwice, Numbers, Sum, Sure}
 
 -- the pairs of a question as they are written, the target first
 abbrev pub pairs_of : QuestionText → List PairText
@@ -85,14 +85,18 @@ is_wide cliques variables = not (list_any (λ clique. list_all (λ x. list_any (
 abbrev pub settled : List Entry → Option Refusal
 settled H = fault_if (is_settled H) Settled
 
+-- nothing was paid yet
+abbrev pub unsettled : List Entry → Option Refusal
+unsettled H = fault_if (not (is_settled H)) Unsettled
+
 abbrev pub no_user : List Entry → List ℕ → Option Refusal
 no_user H u = fault_if (not (has_joined H u)) (NoUser u)
 
 abbrev pub exists : List Entry → List ℕ → Option Refusal
 exists H u = fault_if (has_joined H u) (Exists u)
 
-abbrev pub users_full : List Entry → Option Refusal
-users_full H = fault_if (nat_le max_users (length (users H))) (Users max_users)
+abbrev pub users_full : Market → List Entry → Option Refusal
+users_full market H = fault_if (nat_le market.max_users (length (users H))) (Users market.max_users)
 
 abbrev pub unknown : List Variable → List PairText → Option Refusal
 unknown network pairs = option_map Unknown (find (λ p. is_none (pair_named network p)) pairs)
@@ -196,8 +200,8 @@ sums to = fault_if (not (sum to == million)) (Sum (sum to))
 abbrev pub full : ℕ → ℕ → Option Refusal
 full most held = fault_if (nat_le most held) (Full most)
 
-abbrev pub transfers_full : List Entry → Option Refusal
-transfers_full H = full max_transfers (count_by is_transfer H)
+abbrev pub transfers_full : Market → List Entry → Option Refusal
+transfers_full market H = full market.max_transfers (count_by is_transfer H)
 
 abbrev pub trades_full : Market → List Entry → Option Refusal
 trades_full market H = full market.max_trades (length (trades H))
@@ -210,9 +214,9 @@ unresolved network H =
 
 -- what each command is refused for by its words and by what was done, in this order
 abbrev pub refusals_by_record : Market → List Entry → Command → List (Option Refusal)
-refusals_by_record market H (User u) = settled H ∷ exists H u ∷ users_full H ∷ []
-refusals_by_record market H (Deposit u bits) = settled H ∷ no_user H u ∷ range max_transfer_bits bits ∷ transfers_full H ∷ []
-refusals_by_record market H (Withdraw u bits) = settled H ∷ no_user H u ∷ range max_transfer_bits bits ∷ transfers_full H ∷ []
+refusals_by_record market H (User u) = settled H ∷ exists H u ∷ users_full market H ∷ []
+refusals_by_record market H (Deposit u bits) = settled H ∷ no_user H u ∷ range max_transfer_bits bits ∷ transfers_full market H ∷ []
+refusals_by_record market H (Withdraw u bits) = settled H ∷ no_user H u ∷ range max_transfer_bits bits ∷ transfers_full market H ∷ []
 refusals_by_record market H (Price q) =
     let network = market.network in
     settled H ∷ unknown network (pairs_of q) ∷ twice (names_in (pairs_of q)) ∷ resolved network H q.target.variable
@@ -236,6 +240,7 @@ refusals_by_record market H (Spread u v condition to seen) =
     ∷ stale H seen ∷ resolved network H v ∷ impossible network H condition.items ∷ wide_spread market H v condition.items
     ∷ numbers network v to.items ∷ ranges (least_share market) (million - 1) to.items ∷ sums to.items ∷ trades_full market H ∷ []
 refusals_by_record market H (Worst u) = settled H ∷ no_user H u ∷ []
+refusals_by_record market H (Paid u) = unsettled H ∷ no_user H u ∷ []
 refusals_by_record market H (Resolve p) =
     let network = market.network in
     settled H ∷ unknown network (p ∷ []) ∷ resolved network H p.variable ∷ []

@@ -2,7 +2,6 @@
 use Rattle.std.specs.Prelude.{◌≡◌, ℕ, List, length, not, Option}
 use Rattle.std.specs.List.{count_by}
 use Rattle.arrayvec.specs.ArrayVec.{ArrayVec}
-use Rattle.mk_net.specs.Bounds.{max_transfers}
 use Rattle.mk_net.specs.Network.{Variable}
 use Rattle.mk_states.specs.States.{numbers_below}
 use Rattle.mk_exact.specs.History.{Entry, users, trades, is_transfer, revision}
@@ -36,4 +35,4 @@ abbrev pub status_of : Market → List Entry → Reply
 status_of market H =
     let network = market.network in
     Status (revision H) (length (users H)) (length (trades H)) market.max_trades
-    (count_by is_transfer H) max_transfers (open_count network H) (length network)
+    (count_by is_transfer H) market.max_transfers (open_count network H) (length network)

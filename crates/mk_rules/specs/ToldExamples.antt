@@ -31,6 +31,8 @@ cup_with cliques = record {
   cliques = cliques;
   points_per_bit = 100;
   max_trades = 1000;
+  max_users = 256;
+  max_transfers = 65536;
   zeros = true;
 }
 

@@ -17,6 +17,8 @@ market : (network : List Variable) (cliques : List (List ℕ)) (trades : ℕ) �
       cliques = cliques;
       points_per_bit = 100;
       max_trades = trades;
+      max_users = 256;
+      max_transfers = 65536;
       zeros = false;
     })
 market network cliques trades net none known cells some few = record {
@@ -28,6 +30,10 @@ market network cliques trades net none known cells some few = record {
   few_points = omega arith;
   some_trades = some;
   few_trades = few;
+  some_users = omega arith;
+  few_users = omega arith;
+  some_transfers = omega arith;
+  few_transfers = omega arith;
 }
 
 -- the numbers of one clique and of several

@@ -37,4 +37,6 @@ returns c = record {
   resolve_settled = refl;
   resolve_unknown = refl;
   settle_settled = refl;
+  paid_unsettled = refl;
+  paid_no_user = refl;
 }
