@@ -5,19 +5,20 @@ use Rattle.std.proofs.lemmas.List.{length_push}
 use Rattle.std.specs.List.{count_by}
 use Rattle.mk_net.specs.declared.words.Pair.{Pair}
 use Rattle.mk_net.specs.Asked.{TradeRatio}
-use Rattle.mk_net.specs.Bounds.{max_users, max_variables, max_transfers}
+use Rattle.mk_net.specs.Bounds.{max_variables}
 use Rattle.mk_exact.specs.History.{Entry, Join, Deposit, Withdraw, Trade, Resolve, Settle, Add}
 use Rattle.mk_exact.specs.History.{join_in, trade_in, resolution_in, addition_in, Addition}
 use Rattle.mk_exact.specs.History.{is_settlement, is_transfer}
 use Rattle.mk_exact.specs.History.{users, trades, resolutions, additions, is_settled}
 use Rattle.mk_record.specs.Journals.{max_additions}
+use Rattle.mk_record.specs.declared.journal.Limits.{Limits}
 use Rattle.mk_record.specs.inner.Counted.{IsCounted}
 use Rattle.mk_record.proofs.Appends.{not_found, none_more, found, one_more, not_counted, counted}
 use Rattle.mk_record.proofs.Appends.{not_there, there}
 
-module _ (H : List Entry) (most : ℕ) (known : List Pair) (joined traded moved added : ℕ) where
+module _ (H : List Entry) (most : Limits) (known : List Pair) (joined traded moved added : ℕ) where
   pub after_join : (settled : Bool) (name : List ℕ)
-      → IsCounted H most known joined traded moved added settled → length (users H) < max_users
+      → IsCounted H most known joined traded moved added settled → length (users H) < most.users
       → IsCounted (H ++ Join name ∷ []) most known (joined + 1) traded moved added settled
   after_join settled name old room = record {
     known_pairs = old.known_pairs ∙ sym (not_found H (Join name) resolution_in refl);
@@ -32,11 +33,13 @@ module _ (H : List Entry) (most : ℕ) (known : List Pair) (joined traded moved 
     few_transfers = old.few_transfers;
     few_additions = old.few_additions;
     few_known = old.few_known;
-    few = old.few;
+    trades_at_most = old.trades_at_most;
+    users_at_most = old.users_at_most;
+    transfers_at_most = old.transfers_at_most;
   }
 
   pub after_deposit : (settled : Bool) (user bits : ℕ)
-      → IsCounted H most known joined traded moved added settled → count_by is_transfer H < max_transfers
+      → IsCounted H most known joined traded moved added settled → count_by is_transfer H < most.transfers
       → IsCounted (H ++ Deposit user bits ∷ []) most known joined traded (moved + 1) added settled
   after_deposit settled user bits old room = record {
     known_pairs = old.known_pairs ∙ sym (not_found H (Deposit user bits) resolution_in refl);
@@ -51,11 +54,13 @@ module _ (H : List Entry) (most : ℕ) (known : List Pair) (joined traded moved 
     few_transfers = omega (arith, room, old.transfers_made);
     few_additions = old.few_additions;
     few_known = old.few_known;
-    few = old.few;
+    trades_at_most = old.trades_at_most;
+    users_at_most = old.users_at_most;
+    transfers_at_most = old.transfers_at_most;
   }
 
   pub after_withdrawal : (settled : Bool) (user bits : ℕ)
-      → IsCounted H most known joined traded moved added settled → count_by is_transfer H < max_transfers
+      → IsCounted H most known joined traded moved added settled → count_by is_transfer H < most.transfers
       → IsCounted (H ++ Withdraw user bits ∷ []) most known joined traded (moved + 1) added settled
   after_withdrawal settled user bits old room = record {
     known_pairs = old.known_pairs ∙ sym (not_found H (Withdraw user bits) resolution_in refl);
@@ -70,11 +75,13 @@ module _ (H : List Entry) (most : ℕ) (known : List Pair) (joined traded moved 
     few_transfers = omega (arith, room, old.transfers_made);
     few_additions = old.few_additions;
     few_known = old.few_known;
-    few = old.few;
+    trades_at_most = old.trades_at_most;
+    users_at_most = old.users_at_most;
+    transfers_at_most = old.transfers_at_most;
   }
 
   pub after_trade : (settled : Bool) (user : ℕ) (ratio : TradeRatio)
-      → IsCounted H most known joined traded moved added settled → length (trades H) < most
+      → IsCounted H most known joined traded moved added settled → length (trades H) < most.trades
       → IsCounted (H ++ Trade user ratio ∷ []) most known joined (traded + 1) moved added settled
   after_trade settled user ratio old room = record {
     known_pairs = old.known_pairs ∙ sym (not_found H (Trade user ratio) resolution_in refl);
@@ -89,7 +96,9 @@ module _ (H : List Entry) (most : ℕ) (known : List Pair) (joined traded moved 
     few_transfers = old.few_transfers;
     few_additions = old.few_additions;
     few_known = old.few_known;
-    few = old.few;
+    trades_at_most = old.trades_at_most;
+    users_at_most = old.users_at_most;
+    transfers_at_most = old.transfers_at_most;
   }
 
   pub after_resolution : (settled : Bool) (pair : Pair)
@@ -108,26 +117,30 @@ module _ (H : List Entry) (most : ℕ) (known : List Pair) (joined traded moved 
     few_transfers = old.few_transfers;
     few_additions = old.few_additions;
     few_known = rw (length_push known pair, old.known_pairs) (omega (arith, room));
-    few = old.few;
+    trades_at_most = old.trades_at_most;
+    users_at_most = old.users_at_most;
+    transfers_at_most = old.transfers_at_most;
   }
 
-  pub after_settlement : (settled : Bool)
+  pub after_settlement : (settled : Bool) (payments : List (ℕ × ℕ))
       → IsCounted H most known joined traded moved added settled → is_settled H ≡ false
-      → IsCounted (H ++ Settle ∷ []) most known joined traded moved added true
-  after_settlement settled old room = record {
-    known_pairs = old.known_pairs ∙ sym (not_found H Settle resolution_in refl);
-    users_joined = old.users_joined ∙ sym (none_more H Settle join_in refl);
-    trades_made = old.trades_made ∙ sym (none_more H Settle trade_in refl);
-    transfers_made = old.transfers_made ∙ sym (not_counted H Settle is_transfer refl);
-    additions_made = old.additions_made ∙ sym (none_more H Settle addition_in refl);
-    settlement = sym (there H Settle is_settlement refl);
-    all_counted = omega (arith, length_push H Settle, rw (old.settlement ∙ room) at old.all_counted);
+      → IsCounted (H ++ Settle payments ∷ []) most known joined traded moved added true
+  after_settlement settled payments old room = record {
+    known_pairs = old.known_pairs ∙ sym (not_found H (Settle payments) resolution_in refl);
+    users_joined = old.users_joined ∙ sym (none_more H (Settle payments) join_in refl);
+    trades_made = old.trades_made ∙ sym (none_more H (Settle payments) trade_in refl);
+    transfers_made = old.transfers_made ∙ sym (not_counted H (Settle payments) is_transfer refl);
+    additions_made = old.additions_made ∙ sym (none_more H (Settle payments) addition_in refl);
+    settlement = sym (there H (Settle payments) is_settlement refl);
+    all_counted = omega (arith, length_push H (Settle payments), rw (old.settlement ∙ room) at old.all_counted);
     few_users = old.few_users;
     few_trades = old.few_trades;
     few_transfers = old.few_transfers;
     few_additions = old.few_additions;
     few_known = old.few_known;
-    few = old.few;
+    trades_at_most = old.trades_at_most;
+    users_at_most = old.users_at_most;
+    transfers_at_most = old.transfers_at_most;
   }
 
   pub after_addition : (settled : Bool) (a : Addition)
@@ -146,5 +159,7 @@ module _ (H : List Entry) (most : ℕ) (known : List Pair) (joined traded moved 
     few_transfers = old.few_transfers;
     few_additions = omega (arith, room, old.additions_made);
     few_known = old.few_known;
-    few = old.few;
+    trades_at_most = old.trades_at_most;
+    users_at_most = old.users_at_most;
+    transfers_at_most = old.transfers_at_most;
   }

@@ -4,7 +4,7 @@ use Rattle.std.specs.Prelude.{◌≡◌, ℕ, ◌<◌, ◌≤◌, List, length, 
 use Rattle.mk_net.specs.declared.words.PairText.{PairText}
 use Rattle.mk_net.specs.declared.words.QuestionText.{QuestionText}
 use Rattle.mk_net.specs.declared.words.Pair.{Pair}
-use Rattle.mk_net.specs.Bounds.{max_users, max_transfers, max_transfer_bits, million}
+use Rattle.mk_net.specs.Bounds.{max_transfer_bits, million}
 use Rattle.mk_net.specs.Network.{Variable}
 use Rattle.mk_net.specs.Asked.{Asked}
 use Rattle.mk_exact.specs.History.{Entry, users, trades, is_transfer, is_settled}
@@ -39,15 +39,15 @@ pub record IsSpreadQuestionFor (market : Market) (tree : GivenTree) (H : List En
   pub answered : CanBeSpreadHere market.network tree H spread
 
 -- nobody has the name, and a user more may join
-pub record HasRoomForUser (H : List Entry) (name : List ℕ) : Type 0 where
-  pub new : has_joined H name ≡ false
-  pub few : length (users H) < max_users
+pub record HasRoomForUser (journal : JournalOf) (name : List ℕ) : Type 0 where
+  pub new : has_joined journal.history name ≡ false
+  pub few : length (users journal.history) < journal.max_users
 
 -- bits that may be paid in or taken out at once, and one transfer more may be made
-pub record HasRoomForTransfer (H : List Entry) (bits : ℕ) : Type 0 where
+pub record HasRoomForTransfer (journal : JournalOf) (bits : ℕ) : Type 0 where
   pub some : 1 ≤ bits
   pub most : bits ≤ max_transfer_bits
-  pub few : count_by is_transfer H < max_transfers
+  pub few : count_by is_transfer journal.history < journal.max_transfers
 
 -- a share between nothing and all, and one trade more may be made
 pub record CanBeTraded (journal : JournalOf) (to : ℕ) : Type 0 where

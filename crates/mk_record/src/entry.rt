@@ -12,7 +12,15 @@ pub struct AddedQuestion {
     pub link: u32,
 }
 
-/// An accepted change of a market. Users are numbered by their joining, from 0.
+/// What a user is paid: the low end of an interval that holds the user's cash, in points.
+#[derive(Clone, Copy, Debug)]
+pub struct Payout {
+    pub low: u64,
+    pub high: u64,
+}
+
+/// An accepted change of a market. Users are numbered by their joining, from 0, and a settlement
+/// pays them in this order.
 #[derive(Debug, Drop)]
 pub enum Entry {
     Join { user: Name },
@@ -20,6 +28,6 @@ pub enum Entry {
     Withdraw { user: u32, bits: u32 },
     Trade { user: u32, ratio: Ratio },
     Resolve { pair: Pair },
-    Settle,
+    Settle { payments: Vec<Payout> },
     Add { question: Box<AddedQuestion> },
 }

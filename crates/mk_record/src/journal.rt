@@ -1,6 +1,6 @@
 //! The accepted changes of a market.
 
-ghost use Rattle.std.specs.Prelude.{◌≡◌, ◌<◌, ◌≤◌, [], ◌∷◌, ◌++◌, false, length, IfOk};
+ghost use Rattle.std.specs.Prelude.{◌≡◌, ◌<◌, ◌≤◌, [], ◌∷◌, ◌++◌, false, length, map, IfOk};
 ghost use Rattle.std.specs.List.{count_by};
 ghost use Rattle.mk_net.specs.Bounds.{max_users, max_variables, max_transfers, max_market_trades};
 ghost use Rattle.mk_net.specs.Trades.{trade_ratio};
@@ -8,31 +8,34 @@ ghost use Rattle.mk_exact.specs.History.{Join, Deposit, Withdraw, Trade, Resolve
 ghost use Rattle.mk_exact.specs.History.{users, trades as trades_in, resolutions, additions};
 ghost use Rattle.mk_exact.specs.History.{is_transfer, revision, is_settled};
 ghost use Rattle.mk_rules.specs.Refusals as rules;
-ghost use Rattle.mk_record.specs.Entries.{changes, addition_of};
+ghost use Rattle.mk_record.specs.Entries.{changes, ends, addition_of};
 ghost use Rattle.mk_record.specs.Journals.{max_additions};
 
-use crate::entry::{AddedQuestion, Entry};
+use crate::entry::{AddedQuestion, Entry, Payout};
 use mk_net::{Name, NoMemory, Pair, Ratio};
 use std::alloc::Global;
 use std::marker::Model;
 
-/// The most users of a market, and the most variables of one, each of which is resolved once.
-const MAX_USERS: usize = 256;
-
+/// The most variables of a market, each of which is resolved once.
 const MAX_VARIABLES: usize = 256;
 
 /// The most questions that are added to a market, which has one at least when it opens.
 const MAX_ADDITIONS: usize = MAX_VARIABLES - 1;
 
-/// The most deposits and withdrawals of a market.
-const MAX_TRANSFERS: usize = 65_536;
+/// The most trades, users and transfers of a market: a transfer is a deposit or a withdrawal.
+#[derive(Clone, Copy, Debug)]
+pub struct Limits {
+    pub trades: u32,
+    pub users: u32,
+    pub transfers: u32,
+}
 
 /// The accepted changes in order, with what is counted of them. All memory is taken at the start.
 #[derive(Drop)]
 pub struct Journal {
     entries: Vec<Entry>,
     known: Vec<Pair>,
-    max_trades: u32,
+    limits: Limits,
     joined: u32,
     trades: u32,
     transfers: u32,
@@ -49,22 +52,34 @@ impl Model for Journal {
 
     ghost use Rattle.mk_record.specs.Entries.{changes};
 
-    ghost view = { λ j. record { history = changes j.entries.items; max_trades = j.max_trades } };
+    ghost view = { λ j. record {
+      history = changes j.entries.items;
+      max_trades = j.limits.trades;
+      max_users = j.limits.users;
+      max_transfers = j.limits.transfers;
+    } };
 
-    ghost invariant = { λ j. IsCounted (changes j.entries.items) j.max_trades j.known.items
+    ghost invariant = { λ j. IsCounted (changes j.entries.items) j.limits j.known.items
         j.joined j.trades j.transfers j.added j.settled
-        × HasRoom j.max_trades (vec_capacity j.entries) (vec_capacity j.known) };
+        × HasRoom j.limits (vec_capacity j.entries) (vec_capacity j.known) };
 }
 
 impl Journal {
-    /// The journal of a market that takes so many trades, without an entry.
-    pub fn start(alloc: Global, max_trades: u32) -> Result<Journal, NoMemory>
-        requires { max_trades ≤ max_market_trades }
-        ensures { IfOk result (λ journal. journal ≡ record { history = []; max_trades = max_trades }) }
+    /// The journal of a market of these limits, without an entry.
+    pub fn start(alloc: Global, limits: Limits) -> Result<Journal, NoMemory>
+        requires trades { limits.trades ≤ max_market_trades }
+        requires users { limits.users ≤ max_users }
+        requires transfers { limits.transfers ≤ max_transfers }
+        ensures { IfOk result (λ journal. journal ≡ record {
+          history = [];
+          max_trades = limits.trades;
+          max_users = limits.users;
+          max_transfers = limits.transfers;
+        }) }
     {
-        let most = max_trades as usize
-            + MAX_TRANSFERS
-            + MAX_USERS
+        let most = limits.trades as usize
+            + limits.transfers as usize
+            + limits.users as usize
             + MAX_VARIABLES
             + MAX_ADDITIONS
             + 1;
@@ -73,7 +88,7 @@ impl Journal {
         Ok(Journal {
             entries,
             known,
-            max_trades,
+            limits,
             joined: 0,
             trades: 0,
             transfers: 0,
@@ -101,13 +116,29 @@ impl Journal {
         ensures same { result ≡ self.now.max_trades }
         ensures few { result ≤ max_market_trades }
     {
-        self.max_trades
+        self.limits.trades
+    }
+
+    /// The most users that the market takes.
+    pub fn max_users(&self) -> u32
+        ensures same { result ≡ self.now.max_users }
+        ensures few { result ≤ max_users }
+    {
+        self.limits.users
+    }
+
+    /// The most deposits and withdrawals that the market takes.
+    pub fn max_transfers(&self) -> u32
+        ensures same { result ≡ self.now.max_transfers }
+        ensures few { result ≤ max_transfers }
+    {
+        self.limits.transfers
     }
 
     /// How many users joined.
     pub fn joined(&self) -> u32
         ensures count { result ≡ length (users self.now.history) }
-        ensures few { result ≤ max_users }
+        ensures few { result ≤ self.now.max_users }
     {
         self.joined
     }
@@ -123,7 +154,7 @@ impl Journal {
     /// How many deposits and withdrawals there were.
     pub fn transfers(&self) -> u32
         ensures count { result ≡ count_by is_transfer self.now.history }
-        ensures few { result ≤ max_transfers }
+        ensures few { result ≤ self.now.max_transfers }
     {
         self.transfers
     }
@@ -167,9 +198,11 @@ impl Journal {
 
     /// Adds a user who joined.
     pub fn join(&mut self, user: Name)
-        requires { length (users self.old.history) < max_users }
+        requires { length (users self.old.history) < self.old.max_users }
         ensures history { self.new.history ≡ self.old.history ++ Join user ∷ [] }
         ensures limit { self.new.max_trades ≡ self.old.max_trades }
+        ensures users { self.new.max_users ≡ self.old.max_users }
+        ensures transfers { self.new.max_transfers ≡ self.old.max_transfers }
     {
         self.entries.push_reserved(Entry::Join { user });
         self.joined += 1;
@@ -177,9 +210,11 @@ impl Journal {
 
     /// Adds a deposit.
     pub fn deposit(&mut self, user: u32, bits: u32)
-        requires { count_by is_transfer self.old.history < max_transfers }
+        requires { count_by is_transfer self.old.history < self.old.max_transfers }
         ensures history { self.new.history ≡ self.old.history ++ Deposit user bits ∷ [] }
         ensures limit { self.new.max_trades ≡ self.old.max_trades }
+        ensures users { self.new.max_users ≡ self.old.max_users }
+        ensures transfers { self.new.max_transfers ≡ self.old.max_transfers }
     {
         self.entries.push_reserved(Entry::Deposit { user, bits });
         self.transfers += 1;
@@ -187,9 +222,11 @@ impl Journal {
 
     /// Adds a withdrawal.
     pub fn withdraw(&mut self, user: u32, bits: u32)
-        requires { count_by is_transfer self.old.history < max_transfers }
+        requires { count_by is_transfer self.old.history < self.old.max_transfers }
         ensures history { self.new.history ≡ self.old.history ++ Withdraw user bits ∷ [] }
         ensures limit { self.new.max_trades ≡ self.old.max_trades }
+        ensures users { self.new.max_users ≡ self.old.max_users }
+        ensures transfers { self.new.max_transfers ≡ self.old.max_transfers }
     {
         self.entries.push_reserved(Entry::Withdraw { user, bits });
         self.transfers += 1;
@@ -200,6 +237,8 @@ impl Journal {
         requires { length (trades_in self.old.history) < self.old.max_trades }
         ensures history { self.new.history ≡ self.old.history ++ Trade user (trade_ratio ratio) ∷ [] }
         ensures limit { self.new.max_trades ≡ self.old.max_trades }
+        ensures users { self.new.max_users ≡ self.old.max_users }
+        ensures transfers { self.new.max_transfers ≡ self.old.max_transfers }
     {
         self.entries.push_reserved(Entry::Trade { user, ratio });
         self.trades += 1;
@@ -210,18 +249,22 @@ impl Journal {
         requires { length (resolutions self.old.history) < max_variables }
         ensures history { self.new.history ≡ self.old.history ++ Resolve pair ∷ [] }
         ensures limit { self.new.max_trades ≡ self.old.max_trades }
+        ensures users { self.new.max_users ≡ self.old.max_users }
+        ensures transfers { self.new.max_transfers ≡ self.old.max_transfers }
     {
         self.entries.push_reserved(Entry::Resolve { pair });
         self.known.push_reserved(pair);
     }
 
-    /// Adds the settlement.
-    pub fn settle(&mut self)
+    /// Adds the settlement, and what it pays.
+    pub fn settle(&mut self, payments: Vec<Payout>)
         requires { is_settled self.old.history ≡ false }
-        ensures history { self.new.history ≡ self.old.history ++ Settle ∷ [] }
+        ensures history { self.new.history ≡ self.old.history ++ Settle (map ends payments.items) ∷ [] }
         ensures limit { self.new.max_trades ≡ self.old.max_trades }
+        ensures users { self.new.max_users ≡ self.old.max_users }
+        ensures transfers { self.new.max_transfers ≡ self.old.max_transfers }
     {
-        self.entries.push_reserved(Entry::Settle);
+        self.entries.push_reserved(Entry::Settle { payments });
         self.settled = true;
     }
 
@@ -231,6 +274,8 @@ impl Journal {
         ensures history { self.new.history
             ≡ self.old.history ++ Add (addition_of question.value) ∷ [] }
         ensures limit { self.new.max_trades ≡ self.old.max_trades }
+        ensures users { self.new.max_users ≡ self.old.max_users }
+        ensures transfers { self.new.max_transfers ≡ self.old.max_transfers }
     {
         self.entries.push_reserved(Entry::Add { question });
         self.added += 1;

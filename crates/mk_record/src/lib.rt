@@ -17,11 +17,11 @@ mod users;
 
 pub use adding::{added_question, clique_set};
 pub use asking::{ask, ask_spread, known};
-pub use entry::{AddedQuestion, Entry};
-pub use journal::Journal;
+pub use entry::{AddedQuestion, Entry, Payout};
+pub use journal::{Journal, Limits};
 pub use last_quote::LastQuote;
 pub use refusals::{
-    MAX_TRANSFERS, not_settled, plain_price, refuse_edit, refuse_limits, refuse_price,
+    not_settled, plain_price, refuse_edit, refuse_limits, refuse_paid, refuse_price,
     refuse_resolve, refuse_settle, refuse_transfer, refuse_user, refuse_worst,
 };
 pub use refusing_additions::refuse_add;

@@ -1,9 +1,9 @@
 //! What each command is refused for, first to last.
 
-ghost use Rattle.std.specs.Prelude.{◌≡◌, ◌≤◌, ◌<◌, ℕ, List, [], ◌∷◌, length, is_none, Some, None, IfOk, IfSome, position};
+ghost use Rattle.std.specs.Prelude.{◌≡◌, ◌≤◌, ◌<◌, ℕ, List, [], ◌∷◌, length, true, nat_le, is_none, Some, None, IfOk, IfSome, position};
 ghost use Rattle.std.specs.List.{count_by};
 ghost use Rattle.mk_net.specs.Events.{pairs_asked};
-ghost use Rattle.mk_net.specs.Bounds.{max_users, max_transfers, max_transfer_bits, million};
+ghost use Rattle.mk_net.specs.Bounds.{max_transfer_bits, million};
 ghost use Rattle.mk_net.specs.Firsts.{fault_if, first_of};
 ghost use Rattle.mk_net.specs.Named.{pair_named, variable_named};
 ghost use Rattle.mk_net.specs.Network.{Variable};
@@ -28,12 +28,6 @@ use mk_reply::Refusal;
 use mk_semiring::MinProd;
 use mk_tree::Tree;
 
-/// The most users of a market.
-const MAX_USERS: u32 = 256;
-
-/// The most deposits and withdrawals of a market.
-pub const MAX_TRANSFERS: u32 = 65_536;
-
 /// The most bits of a deposit or a withdrawal.
 const MAX_TRANSFER_BITS: u32 = 1_000;
 
@@ -47,8 +41,9 @@ pub fn refuse_user<A: Engine<MinProd>>(
     name: &Name,
 ) -> Result<(), Refusal>
     requires named { names_of users.now ≡ history.users journal.now.history }
-    ensures refusal { (market : Market) → refusal_in result ≡ rules.first_refusal market journal.now.history (command.User name.now) }
-    ensures room { IfOk result (λ _. HasRoomForUser journal.now.history name.now) }
+    ensures refusal { (market : Market) → journal.now.max_users ≡ market.max_users
+        → refusal_in result ≡ rules.first_refusal market journal.now.history (command.User name.now) }
+    ensures room { IfOk result (λ _. HasRoomForUser journal.now name.now) }
 {
     not_settled(journal)?;
     not_joined(users, name)?;
@@ -64,10 +59,12 @@ pub fn refuse_transfer<A: Engine<MinProd>>(
     bits: u32,
 ) -> Result<u32, Refusal>
     requires named { names_of users.now ≡ history.users journal.now.history }
-    ensures deposit { (market : Market) → refusal_in result ≡ rules.first_refusal market journal.now.history (command.Deposit name.now bits) }
-    ensures withdrawal { (market : Market) → refusal_in result ≡ rules.first_refusal market journal.now.history (command.Withdraw name.now bits) }
+    ensures deposit { (market : Market) → journal.now.max_transfers ≡ market.max_transfers
+        → refusal_in result ≡ rules.first_refusal market journal.now.history (command.Deposit name.now bits) }
+    ensures withdrawal { (market : Market) → journal.now.max_transfers ≡ market.max_transfers
+        → refusal_in result ≡ rules.first_refusal market journal.now.history (command.Withdraw name.now bits) }
     ensures user { IfOk result (λ user. IsUser journal.now.history name.now user) }
-    ensures room { IfOk result (λ _. HasRoomForTransfer journal.now.history bits) }
+    ensures room { IfOk result (λ _. HasRoomForTransfer journal.now bits) }
 {
     not_settled(journal)?;
     let user = find_user(users, name)?;
@@ -197,6 +194,21 @@ pub fn refuse_worst<A: Engine<MinProd>>(
     find_user(users, name)
 }
 
+/// What `paid` is refused for: a market that is not settled, and an unknown user.
+pub fn refuse_paid<A: Engine<MinProd>>(
+    journal: &Journal,
+    users: &Users<A>,
+    name: &Name,
+) -> Result<u32, Refusal>
+    requires named { names_of users.now ≡ history.users journal.now.history }
+    ensures refusal { (market : Market) → refusal_in result ≡ rules.first_refusal market journal.now.history (command.Paid name.now) }
+    ensures user { IfOk result (λ user. IsUser journal.now.history name.now user) }
+    ensures settled { IfOk result (λ _. history.is_settled journal.now.history ≡ true) }
+{
+    is_paid_out(journal)?;
+    find_user(users, name)
+}
+
 /// What `resolve` is refused for by the record: a settlement, a pair that is unknown, and a variable that is resolved.
 pub fn refuse_resolve(
     file: &MarketFile,
@@ -257,6 +269,13 @@ pub fn not_settled(journal: &Journal) -> Result<(), Refusal>
     refuse_if(journal.is_settled(), Refusal::Settled)
 }
 
+/// Nothing was paid before a settlement.
+fn is_paid_out(journal: &Journal) -> Result<(), Refusal>
+    ensures { refusal_in result ≡ rules.unsettled journal.now.history }
+{
+    refuse_if(!journal.is_settled(), Refusal::Unsettled)
+}
+
 fn not_joined<A: Engine<MinProd>>(users: &Users<A>, name: &Name) -> Result<(), Refusal>
     ensures { (H : List history.Entry) → names_of users.now ≡ history.users H → refusal_in result ≡ rules.exists H name.now }
 {
@@ -264,11 +283,14 @@ fn not_joined<A: Engine<MinProd>>(users: &Users<A>, name: &Name) -> Result<(), R
 }
 
 fn room_for_user(journal: &Journal) -> Result<(), Refusal>
-    ensures { refusal_in result ≡ rules.users_full journal.now.history }
+    ensures { refusal_in result ≡ fault_if (nat_le journal.now.max_users
+        (length (history.users journal.now.history))) (Refusal.Users journal.now.max_users) }
 {
     refuse_if(
-        journal.joined() >= MAX_USERS,
-        Refusal::Users { held: MAX_USERS },
+        journal.joined() >= journal.max_users(),
+        Refusal::Users {
+            held: journal.max_users(),
+        },
     )
 }
 
@@ -286,12 +308,12 @@ pub(crate) fn in_range(number: u32, most: u32) -> Result<(), Refusal>
 }
 
 fn room_for_transfer(journal: &Journal) -> Result<(), Refusal>
-    ensures { refusal_in result ≡ rules.transfers_full journal.now.history }
+    ensures { refusal_in result ≡ rules.full journal.now.max_transfers (count_by history.is_transfer journal.now.history) }
 {
     refuse_if(
-        journal.transfers() >= MAX_TRANSFERS,
+        journal.transfers() >= journal.max_transfers(),
         Refusal::Full {
-            held: MAX_TRANSFERS,
+            held: journal.max_transfers(),
         },
     )
 }

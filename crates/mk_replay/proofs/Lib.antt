@@ -2,3 +2,6 @@ pub mod HasHome
 pub mod Weighed
 pub mod Replayed
 pub mod Owned
+pub mod ListedDues
+pub mod PaidDues
+pub mod Outcomes

@@ -50,7 +50,7 @@ module _ (u : ℕ) (m : Meaning) (ins outs : ℕ) where
       at true = nothing_moved (with_factor (RatioOf ratio) m)
       at false = nothing_moved m
   parts_grow (history.Resolve pair) = nothing_moved (with_known pair m)
-  parts_grow history.Settle = nothing_moved m
+  parts_grow (history.Settle payments) = nothing_moved m
   parts_grow (history.Add addition) = nothing_moved m
 
 module _ (network : List Variable) (tree : GivenTree) (u : ℕ) where
@@ -82,7 +82,7 @@ module _ (network : List Variable) (tree : GivenTree) (u : ℕ) where
       omega (arith, own, all, one, few_out)
   room_here front rest (history.Trade user ratio) few_in few_out = tt
   room_here front rest (history.Resolve pair) few_in few_out = tt
-  room_here front rest history.Settle few_in few_out = tt
+  room_here front rest (history.Settle payments) few_in few_out = tt
   room_here front rest (history.Add addition) few_in few_out = tt
 
   module _ (entries : List Entry) (d : Entry) (i : ℕ) (there : i < length entries) where

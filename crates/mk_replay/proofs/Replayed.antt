@@ -57,7 +57,7 @@ take_one stands_for engine network tree entries d i l h =
     ∙ ap (weights_of network tree) (sym (changes_more entries d i l))) h
 
 -- the last part of what holds of each
-all_back : {X : Type 0} (P : X → Type 0) (xs ys : List X) → AllByRecursion P (xs ++ ys)
+pub all_back : {X : Type 0} (P : X → Type 0) (xs ys : List X) → AllByRecursion P (xs ++ ys)
     → AllByRecursion P ys
 all_back P [] ys h = h
 all_back P (x ∷ xs) ys h = all_back P xs ys h.1
@@ -99,7 +99,7 @@ module _ (network : List Variable) (tree : GivenTree) (legal : IsNetwork network
     can_take_here u front rest (history.Join name) placed = (tt, tt)
     can_take_here u front rest (history.Deposit user bits) placed = (tt, tt)
     can_take_here u front rest (history.Withdraw user bits) placed = (tt, tt)
-    can_take_here u front rest history.Settle placed = (tt, tt)
+    can_take_here u front rest (history.Settle payments) placed = (tt, tt)
     can_take_here u front rest (history.Add addition) placed = (tt, tt)
     can_take_here u front rest (history.Resolve pair) placed =
         let known : resolutions (front ++ history.Resolve pair ∷ rest) ≡ resolutions front ++ pair ∷

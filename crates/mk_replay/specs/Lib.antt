@@ -1,3 +1,5 @@
 pub mod Placed
 pub mod Known
+pub mod ByRule
+pub mod Tills
 pub mod inner

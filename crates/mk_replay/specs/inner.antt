@@ -1,2 +1,3 @@
 -- What only proofs and private contracts cite.
 pub mod Taking
+pub mod Dues

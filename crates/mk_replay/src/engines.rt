@@ -71,7 +71,7 @@ fn take<R: Semiring, E: Engine<R>>(engine: &mut E, tree: &Tree, entry: &Entry)
         Entry::Join { .. }
         | Entry::Deposit { .. }
         | Entry::Withdraw { .. }
-        | Entry::Settle
+        | Entry::Settle { .. }
         | Entry::Add { .. } => {}
     }
 }

@@ -68,6 +68,6 @@ fn take_own<A: Engine<MinProd>>(assets: &mut Assets<A>, tree: &Tree, user: u32, 
             }
         }
         Entry::Resolve { pair } => assets.know(home_of_pair(tree, *pair), *pair),
-        Entry::Join { .. } | Entry::Settle | Entry::Add { .. } => {}
+        Entry::Join { .. } | Entry::Settle { .. } | Entry::Add { .. } => {}
     }
 }
