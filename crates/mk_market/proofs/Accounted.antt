@@ -1,18 +1,18 @@
 -- The accounts of a market's users after one more entry.
-use Rattle.std.specs.Prelude.{◌≡◌, ℕ, ◌+◌, ◌*◌, ◌<◌, zero, suc, List, [], ◌∷◌, ◌++◌, length, true}
-use Rattle.std.specs.Prelude.{false, None, slice_set, ◌⊎◌}
+use Rattle.std.specs.Prelude.{◌≡◌, ℕ, ◌+◌, ◌*◌, ◌<◌, zero, suc, List, [], ◌∷◌, ◌++◌, length}
+use Rattle.std.specs.Prelude.{false, None, slice_get, slice_set, ◌⊎◌}
 use Rattle.std.specs.List.{AllByRecursion}
 use Rattle.std.proofs.Common.{inl, inr, refl, sym, ap, ◌∙◌, subst, arith, eq-eqb, ne_eqb}
 use Rattle.std.proofs.lemmas.Bool.{cases_eq}
 use Rattle.std.proofs.lemmas.List.{length_push, length-set, get_or-set_same, get_or-set_other, get_or_append_left, get_or_push}
-use Rattle.mk_exact.specs.History.{Entry, Join, Deposit, Withdraw, users, deposited, withdrawn, bits_in, bits_out, join_in, is_settlement, is_settled}
+use Rattle.mk_exact.specs.History.{Entry, Join, Deposit, Withdraw, Trade, Resolve, Settle, Add, users, deposited, withdrawn, bits_in, bits_out}
+use Rattle.mk_exact.specs.History.{join_in, is_settlement, is_settled, payments_in, or_nothing, payment_to}
 use Rattle.mk_exact.specs.Market.{Market}
-use Rattle.mk_exact.proofs.After.{deposited_more, withdrawn_more, users_kept, users_more}
+use Rattle.mk_exact.proofs.After.{deposited_more, withdrawn_more, users_kept, users_more, payments_kept, payments_before}
 use Rattle.mk_rules.specs.Bounded.{FitsTransfer}
 use Rattle.mk_cash.specs.declared.ledger.Account.{Account}
 use Rattle.mk_cash.specs.Accounts.{account_of, empty_account}
 use Rattle.mk_market.specs.Points.{IsAccount, AreAccounts}
-use Rattle.mk_record.proofs.Appends.{not_there}
 use Rattle.mk_market.proofs.Owned.{none_moved}
 
 -- an account that is set to one that was paid the same leaves what was paid, and so does one that
@@ -39,10 +39,38 @@ paid_opened [] (suc u) = refl
 paid_opened (a ∷ accounts) zero = refl
 paid_opened (a ∷ accounts) (suc u) = paid_opened accounts u
 
+-- what some payments pay a user
+abbrev paid_in : ℕ → List (ℕ × ℕ) → ℕ × ℕ
+paid_in u payments = or_nothing (slice_get payments u)
+
+pays_nothing : (e : Entry) → is_settlement e ≡ false → payments_in e ≡ []
+pays_nothing (Join name) h = refl
+pays_nothing (Deposit user bits) h = refl
+pays_nothing (Withdraw user bits) h = refl
+pays_nothing (Trade user ratio) h = refl
+pays_nothing (Resolve pair) h = refl
+pays_nothing (Settle payments) h = absurd (cc)
+pays_nothing (Add addition) h = refl
+
+-- an entry that is no settlement leaves what a user is paid
+pub payment_kept : (H : List Entry) (e : Entry) (u : ℕ) → is_settlement e ≡ false
+    → payment_to H u ≡ payment_to (H ++ e ∷ []) u
+payment_kept H e u other = ap (paid_in u) (sym (payments_kept H e (pays_nothing e other)))
+
 module _ (market : Market) (H : List Entry) (unsettled : is_settled H ≡ false) where
-  -- an entry that is no settlement leaves the market unsettled
-  still_unsettled : (e : Entry) → is_settlement e ≡ false → is_settled (H ++ e ∷ []) ≡ true → ⊥
-  still_unsettled e other settled = let no : true ≡ false = sym settled ∙ not_there H e is_settlement other ∙ unsettled in cc no
+  -- before the settlement nothing is paid
+  nothing_paid : (u : ℕ) → (0, 0) ≡ payment_to H u
+  nothing_paid u = ap (paid_in u) (sym (payments_before H unsettled))
+
+  -- an entry that is no settlement pays nothing more
+  paid_still : (e : Entry) (u : ℕ) (a b : Account) → is_settlement e ≡ false
+      → IsAccount market H u a → b.paid ≡ a.paid → b.high ≡ a.high
+      → (b.paid ≡ (payment_to (H ++ e ∷ []) u).0) × (b.high ≡ (payment_to (H ++ e ∷ []) u).1)
+  paid_still e u a b other old low high =
+      let still = payment_kept H e u other in (
+        low ∙ old.paid_to.0 ∙ ap (λ (p : ℕ × ℕ). p.0) still,
+        high ∙ old.paid_to.1 ∙ ap (λ (p : ℕ × ℕ). p.1) still,
+      )
 
   -- an entry that moves none of the user's bits
   account_kept : (e : Entry) (u : ℕ) (a : Account) → is_settlement e ≡ false → bits_in u e ≡ 0 → bits_out u e ≡ 0 → IsAccount market H u a → IsAccount market (H ++ e ∷ []) u a
@@ -52,7 +80,7 @@ module _ (market : Market) (H : List Entry) (unsettled : is_settled H ≡ false)
       record {
         paid_in = old.paid_in ∙ ap (λ (n : ℕ). market.points_per_bit * n) d;
         taken_out = old.taken_out ∙ ap (λ (n : ℕ). market.points_per_bit * n) w;
-        unpaid = λ h. old.unpaid unsettled;
+        paid_to = paid_still e u a a other old refl refl;
       }
 
   -- one account changes, and the entry moves nobody else's bits
@@ -101,7 +129,8 @@ module _ (market : Market) (H : List Entry) (unsettled : is_settled H ≡ false)
       own = record {
         paid_in = rw (deposits, account.paid_in, worth) (omega arith);
         taken_out = account.taken_out ∙ ap (λ (n : ℕ). market.points_per_bit * n) withdrawals;
-        unpaid = λ h. account.unpaid unsettled;
+        paid_to = paid_still (Deposit user bits) user (account_of accounts user)
+            (let before = account_of accounts user in record before { deposited = before.deposited + points }) refl account refl refl;
       }
 
   -- or taken out
@@ -127,7 +156,8 @@ module _ (market : Market) (H : List Entry) (unsettled : is_settled H ≡ false)
       own = record {
         paid_in = account.paid_in ∙ ap (λ (n : ℕ). market.points_per_bit * n) deposits;
         taken_out = rw (withdrawals, account.taken_out, worth) (omega arith);
-        unpaid = λ h. account.unpaid unsettled;
+        paid_to = paid_still (Withdraw user bits) user (account_of accounts user)
+            (let before = account_of accounts user in record before { withdrawn = before.withdrawn + points }) refl account refl refl;
       }
 
   -- a user joins
@@ -145,7 +175,10 @@ module _ (market : Market) (H : List Entry) (unsettled : is_settled H ≡ false)
       newcomer = record {
         paid_in = rw (moved.0) (omega arith);
         taken_out = rw (moved.1) (omega arith);
-        unpaid = λ h. refl;
+        paid_to = (
+          ap (λ (p : ℕ × ℕ). p.0) (nothing_paid (length (users H))),
+          ap (λ (p : ℕ × ℕ). p.1) (nothing_paid (length (users H))),
+        );
       }
 
       at : (u : ℕ) → u < length accounts + 1 → ((u ≡ length accounts) ⊎ (u ≡ length accounts → ⊥)) → IsAccount market (H ++ Join name ∷ []) u (account_of (accounts ++ empty_account ∷ []) u)

@@ -13,7 +13,7 @@ use Rattle.mk_file.specs.declared.market_file.MarketFile.{MarketFile}
 use Rattle.mk_file.specs.MarketOf.{market_of}
 use Rattle.mk_engine.specs.Meaning.{Meaning}
 use Rattle.mk_beliefs.specs.Meanings.{weights_of}
-use Rattle.mk_cash.specs.declared.ledger.Account.{Account}
+use Rattle.mk_cash.specs.Accounts.{LedgerOf}
 use Rattle.mk_command.specs.declared.command.Command.TheVariants.{Price}
 use Rattle.mk_reply.specs.declared.payments.Payment.{Payment}
 use Rattle.mk_reply.specs.declared.reply.Reply.TheVariants.{Price as Priced}
@@ -30,6 +30,7 @@ use Rattle.mk_market.specs.inner.Keeping.{standing_of, IsKept}
 use Rattle.mk_market.proofs.Growing.{is_open}
 use Rattle.mk_market.proofs.Replies.{answer_allowed, none_appended, unrefused}
 use Rattle.mk_market.proofs.Together.{none_together}
+use Rattle.mk_replay.specs.Tills.{TillOf}
 
 -- what holds of each pair that is found
 pub on_some : (P : ℕ × ℕ → Type 0) (found : Option (ℕ × ℕ)) → ((low high : ℕ) → found ≡ Some (low, high) → P (low, high)) → IfSome found P
@@ -37,10 +38,10 @@ on_some P None h = tt
 on_some P (Some price) h = h price.0 price.1 refl
 
 module _ {P A Plan : Type 0} (weights_stand : P → Meaning → Type 0) (gains_stand : A → Meaning → Type 0) (plan_for : Plan → List Variable → GivenTree → Type 0)
-    (file : MarketFile) (prices : P) (rows : A) (plan : Plan) (members : List (Member A Plan)) (accounts : List Account) (journal : JournalOf) (payments : Option (List Payment))
-    (kept : IsKept weights_stand gains_stand plan_for file prices rows plan members accounts journal payments) where
+    (file : MarketFile) (prices : P) (rows : A) (plan : Plan) (members : List (Member A Plan)) (ledger : LedgerOf) (journal : JournalOf) (payments : Option (List Payment)) (till : Option TillOf)
+    (kept : IsKept weights_stand gains_stand plan_for file prices rows plan members ledger journal payments till) where
   opened : IsOpen file.net file.tree journal.history
-  opened = is_open weights_stand gains_stand plan_for file prices rows plan members accounts journal payments kept
+  opened = is_open weights_stand gains_stand plan_for file prices rows plan members ledger journal payments till kept
 
   -- a question that can be answered
   module _ (question : QuestionText) (asked : Asked) (is_question : IsQuestionFor (market_of file) file.tree journal.history question asked) where

@@ -4,86 +4,67 @@ use Rattle.std.specs.Prelude.{◌⊎◌}
 use Rattle.std.proofs.Common.{refl, sym, ap, ◌∙◌, subst, inl, inr, arith}
 use Rattle.std.proofs.lemmas.Bool.{cases_eq}
 use Rattle.std.proofs.lemmas.List.{length-set, get_or-set_same, get_or-set_other}
+use Rattle.mk_exact.specs.History.{or_nothing}
 use Rattle.mk_cash.specs.declared.ledger.Account.{Account}
 use Rattle.mk_cash.specs.Accounts.{account_of, empty_account}
-use Rattle.mk_reply.specs.declared.payments.Payment.{Payment}
+use Rattle.mk_market.specs.inner.Paying.{IsPaid}
 
 -- those before a place are booked, and none from there on
-pub record AreBookedBefore (accounts : List Account) (payments : List Payment) (n : ℕ)
-    (ledger : List Account) : Type 0 where
-  pub count : length ledger ≡ length accounts
-  pub paid : (u : ℕ) (payment : Payment) → u < n → slice_get payments u ≡ Some payment
-      → (account_of ledger u).paid ≡ (account_of accounts u).paid + payment.paid
-  pub unpaid : (u : ℕ) → n ≤ u → (account_of ledger u).paid ≡ (account_of accounts u).paid
-  pub paid_in : (u : ℕ) → (account_of ledger u).deposited ≡ (account_of accounts u).deposited
-  pub taken_out : (u : ℕ) → (account_of ledger u).withdrawn ≡ (account_of accounts u).withdrawn
+pub record AreBookedBefore (accounts : List Account) (paid : List (ℕ × ℕ)) (n : ℕ)
+    (booked : List Account) : Type 0 where
+  pub count : length booked ≡ length accounts
+  pub behind : (u : ℕ) → u < n → IsPaid (account_of accounts u) (account_of booked u) (or_nothing (slice_get paid u))
+  pub before : (u : ℕ) → n ≤ u → account_of booked u ≡ account_of accounts u
 
-pub none_booked : (accounts : List Account) (payments : List Payment)
-    → AreBookedBefore accounts payments 0 accounts
-none_booked accounts payments = record {
+pub none_booked : (accounts : List Account) (paid : List (ℕ × ℕ))
+    → AreBookedBefore accounts paid 0 accounts
+none_booked accounts paid = record {
   count = refl;
-  paid = λ u payment before at. absurd (omega arith);
-  unpaid = λ u later. refl;
-  paid_in = λ u. refl;
-  taken_out = λ u. refl;
+  behind = λ u earlier. absurd (omega arith);
+  before = λ u later. refl;
 }
 
-is_some : {X : Type 0} (x y : X) → Some x ≡ Some y → x ≡ y
-is_some x y e = cc
+-- an account that a payment was entered into
+abbrev entered_account : Account → ℕ × ℕ → Account
+entered_account account payment = record account { paid = account.paid + payment.0; high = payment.1 }
 
-pub one_booked : (accounts : List Account) (payments : List Payment) (n : ℕ)
-    (ledger new : List Account) (payment : Payment) → n < length accounts
-    → slice_get payments n ≡ Some payment
-    → AreBookedBefore accounts payments n ledger
-    → new ≡ slice_set ledger n (let account = account_of ledger n in record account
-    { paid = account.paid + payment.paid })
-    → AreBookedBefore accounts payments (n + 1) new
-one_booked accounts payments n ledger new payment within its so_far entered = record {
-  count = ap (λ (xs : List Account). length xs) entered ∙ length-set ledger n entry
-      ∙ so_far.count;
-  paid = λ u given before at. now_paid u given before at (cases_eq u n);
-  unpaid = λ u later. other (λ (a : Account). a.paid) u
-      (λ same. absurd (omega (arith, same, later)))
-      ∙ so_far.unpaid u (omega (arith, later));
-  paid_in = λ u. field_same (λ (a : Account). a.deposited) refl u ∙ so_far.paid_in u;
-  taken_out = λ u. field_same (λ (a : Account). a.withdrawn) refl u ∙ so_far.taken_out u;
+pub one_booked : (accounts : List Account) (paid : List (ℕ × ℕ)) (n : ℕ)
+    (booked new : List Account) (payment : ℕ × ℕ) → n < length accounts
+    → slice_get paid n ≡ Some payment
+    → AreBookedBefore accounts paid n booked
+    → new ≡ slice_set booked n (entered_account (account_of booked n) payment)
+    → AreBookedBefore accounts paid (n + 1) new
+one_booked accounts paid n booked new payment within its so_far entered = record {
+  count = ap (λ (xs : List Account). length xs) entered ∙ length-set booked n entry ∙ so_far.count;
+  behind = λ u earlier. now_behind u earlier (cases_eq u n);
+  before = λ u later. other u (λ same. absurd (omega (arith, same, later))) ∙ so_far.before u (omega (arith, later));
 }
   where
     entry : Account
-    entry = let account = account_of ledger n in record account
-        { paid = account.paid + payment.paid }
+    entry = entered_account (account_of booked n) payment
 
-    place : n < length ledger
+    place : n < length booked
     place = omega (arith, within, so_far.count)
 
-    here : (f : Account → ℕ) → f (account_of new n) ≡ f entry
-    here f = ap (λ (xs : List Account). f (account_of xs n)) entered
-        ∙ ap f (get_or-set_same ledger n entry empty_account place)
+    here : account_of new n ≡ entry
+    here = ap (λ (xs : List Account). account_of xs n) entered ∙ get_or-set_same booked n entry empty_account place
 
-    other : (f : Account → ℕ) (u : ℕ) → (u ≡ n → ⊥) → f (account_of new u) ≡ f (account_of ledger u)
-    other f u differs = ap (λ (xs : List Account). f (account_of xs u)) entered
-        ∙ ap f (get_or-set_other ledger n u entry empty_account differs)
+    other : (u : ℕ) → (u ≡ n → ⊥) → account_of new u ≡ account_of booked u
+    other u differs = ap (λ (xs : List Account). account_of xs u) entered
+        ∙ get_or-set_other booked n u entry empty_account differs
 
-    field_same : (f : Account → ℕ) → f entry ≡ f (account_of ledger n) → (u : ℕ)
-        → f (account_of new u) ≡ f (account_of ledger u)
-    field_same f same u = at (cases_eq u n)
-      where
-        at : (u ≡ n) ⊎ (u ≡ n → ⊥) → f (account_of new u) ≡ f (account_of ledger u)
-        at (inl e) = subst (λ (k : ℕ). f (account_of new k) ≡ f (account_of ledger k)) (sym e)
-            (here f ∙ same)
-        at (inr differs) = other f u differs
+    own : IsPaid (account_of accounts n) entry payment
+    own =
+        let was = so_far.before n (omega arith) in
+        subst (λ (a : Account). IsPaid a entry payment) was
+        (record { paid = refl; high = refl; paid_in = refl; taken_out = refl })
 
-    now_paid : (u : ℕ) (given : Payment) → u < n + 1 → slice_get payments u ≡ Some given
-        → (u ≡ n) ⊎ (u ≡ n → ⊥)
-        → (account_of new u).paid ≡ (account_of accounts u).paid + given.paid
-    now_paid u given before at (inl e) =
-        let one : payment ≡ given = is_some payment given
-        (sym its ∙ ap (λ (k : ℕ). slice_get payments k) (sym e) ∙ at) in
-        subst (λ (k : ℕ). (account_of new k).paid ≡ (account_of accounts k).paid + given.paid)
-        (sym e)
-        (here (λ (a : Account). a.paid)
-        ∙ ap (λ (k : ℕ). k + payment.paid) (so_far.unpaid n (omega arith))
-        ∙ ap (λ (p : Payment). (account_of accounts n).paid + p.paid) one)
-    now_paid u given before at (inr differs) =
-        other (λ (a : Account). a.paid) u differs
-        ∙ so_far.paid u given (omega (arith, before, differs)) at
+    now_behind : (u : ℕ) → u < n + 1 → (u ≡ n) ⊎ (u ≡ n → ⊥)
+        → IsPaid (account_of accounts u) (account_of new u) (or_nothing (slice_get paid u))
+    now_behind u earlier (inl e) =
+        subst (λ (k : ℕ). IsPaid (account_of accounts k) (account_of new k) (or_nothing (slice_get paid k))) (sym e)
+        (subst (λ (a : Account). IsPaid (account_of accounts n) a (or_nothing (slice_get paid n))) (sym here)
+        (subst (λ (ends : ℕ × ℕ). IsPaid (account_of accounts n) entry ends) (sym (ap or_nothing its)) own))
+    now_behind u earlier (inr differs) =
+        subst (λ (a : Account). IsPaid (account_of accounts u) a (or_nothing (slice_get paid u))) (sym (other u differs))
+        (so_far.behind u (omega (arith, earlier, differs)))

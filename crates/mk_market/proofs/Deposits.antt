@@ -12,8 +12,7 @@ use Rattle.mk_file.specs.MarketOf.{market_of}
 use Rattle.mk_engine.specs.Meaning.{Meaning}
 use Rattle.mk_assets.specs.declared.assets.Assets.{Assets}
 use Rattle.mk_assets.specs.Holdings.{Holding, Owns, CanDeposit, max_bits, with_deposit}
-use Rattle.mk_cash.specs.declared.ledger.Account.{Account}
-use Rattle.mk_cash.specs.Accounts.{account_of}
+use Rattle.mk_cash.specs.Accounts.{account_of, LedgerOf}
 use Rattle.mk_record.specs.declared.last_quote.LastQuote.{LastQuote}
 use Rattle.mk_command.specs.declared.command.Command.TheVariants.{Deposit}
 use Rattle.mk_reply.specs.declared.payments.Payment.{Payment}
@@ -28,40 +27,43 @@ use Rattle.mk_record.specs.Journals.{JournalOf}
 use Rattle.mk_record.specs.Members.{assets_of, quotes_of, with_assets}
 use Rattle.mk_market.specs.Points.{IsAccount, ArePaidBy}
 use Rattle.mk_record.specs.Refused.{IsUser, HasRoomForTransfer}
-use Rattle.mk_market.specs.inner.Keeping.{quoted, standing_of, IsKept}
+use Rattle.mk_market.specs.inner.Keeping.{quoted, standing_of, IsKept, TakesAsMuch}
 use Rattle.mk_record.proofs.Appends.{not_there, not_found}
 use Rattle.mk_market.proofs.Growing.{kept_grown}
 use Rattle.mk_market.proofs.Owned.{names_same, quotes_same, owned_one, deposit_holding, deposit_others, few_moved}
 use Rattle.mk_market.proofs.Accounted.{paid_set, accounts_deposited}
 use Rattle.mk_market.proofs.Replies.{answer_allowed, unsettled}
+use Rattle.mk_replay.specs.Tills.{TillOf}
 
 module _ {P A Plan : Type 0} (weights_stand : P → Meaning → Type 0) (gains_stand : A → Meaning → Type 0) (plan_for : Plan → List Variable → GivenTree → Type 0)
-    (file : MarketFile) (prices : P) (rows : A) (plan : Plan) (members : List (Member A Plan)) (accounts : List Account) (journal : JournalOf) (payments : Option (List Payment))
-    (kept : IsKept weights_stand gains_stand plan_for file prices rows plan members accounts journal payments)
-    (name : List ℕ) (user bits : ℕ) (is_user : IsUser journal.history name user) (room : HasRoomForTransfer journal.history bits) where
+    (file : MarketFile) (prices : P) (rows : A) (plan : Plan) (members : List (Member A Plan)) (ledger : LedgerOf) (journal : JournalOf) (payments : Option (List Payment)) (till : Option TillOf)
+    (kept : IsKept weights_stand gains_stand plan_for file prices rows plan members ledger journal payments till)
+    (name : List ℕ) (user bits : ℕ) (is_user : IsUser journal.history name user) (room : HasRoomForTransfer journal bits) where
   bits_fit : deposited journal.history user + bits ≤ max_bits
-  bits_fit = let most = few_moved (length (users journal.history)) user journal.history kept.safe.bounded.transfers_fit in omega (arith, most.0, room.most, room.few)
+  bits_fit = let most = few_moved (length (users journal.history)) user journal.history kept.safe.bounded.transfers_fit in omega (arith, most.0, room.most, room.few, kept.max_transfers, file.transfers_most)
 
   pub can_deposit : (before : Assets A Plan) → slice_get (assets_of members) user ≡ Some before → CanDeposit gains_stand before bits
   can_deposit before there = record { holding = holding_of file.net file.tree journal.history user; owns = kept.owns user before there; room = bits_fit }
 
-  pub points_fit : (account_of accounts user).deposited + file.points_per_bit * bits < number_limit
+  pub points_fit : (account_of ledger.accounts user).deposited + file.points_per_bit * bits < number_limit
   points_fit =
-      let account : IsAccount (market_of file) journal.history user (account_of accounts user) = kept.accounts_kept.each user (omega (arith, is_user.within, kept.accounts_kept.one_each)) in
-      let most : file.points_per_bit * (deposited journal.history user + bits) ≤ 1000000 * 65536000 = mul-le-mul file.points_most bits_fit in
+      let account : IsAccount (market_of file) journal.history user (account_of ledger.accounts user) = kept.accounts_kept.each user (omega (arith, is_user.within, kept.accounts_kept.one_each)) in
+      let most : file.points_per_bit * (deposited journal.history user + bits) ≤ 1000000 * 1000000000 = mul-le-mul file.points_most bits_fit in
       omega (arith, account.paid_in, most)
 
-  pub deposit_paid : (new_accounts : List Account)
-      → new_accounts ≡ slice_set accounts user (let account = account_of accounts user in record
-      account { deposited = account.deposited + file.points_per_bit * bits })
-      → (at : ℕ) → ArePaidBy (Deposited name bits at) accounts new_accounts
-  deposit_paid new_accounts entered at u =
-      ap (λ (xs : List Account). (account_of xs u).paid) entered
-      ∙ paid_set accounts user (let account = account_of accounts user in record account
+  pub deposit_paid : (new_ledger : LedgerOf)
+      → new_ledger ≡ record ledger {
+        accounts = slice_set ledger.accounts user (let account = account_of ledger.accounts user in record
+            account { deposited = account.deposited + file.points_per_bit * bits });
+      }
+      → (at : ℕ) → ArePaidBy (Deposited name bits at) ledger.accounts new_ledger.accounts
+  deposit_paid new_ledger entered at u =
+      ap (λ (l : LedgerOf). (account_of l.accounts u).paid) entered
+      ∙ paid_set ledger.accounts user (let account = account_of ledger.accounts user in record account
       { deposited = account.deposited + file.points_per_bit * bits })
       (omega (arith, is_user.within, kept.accounts_kept.one_each)) refl u
 
-  module _ (before now : Assets A Plan) (there : slice_get (assets_of members) user ≡ Some before) (new_accounts : List Account) (new_journal : JournalOf)
+  module _ (before now : Assets A Plan) (there : slice_get (assets_of members) user ≡ Some before) (new_ledger : LedgerOf) (new_journal : JournalOf)
       (history : new_journal.history ≡ journal.history ++ Deposits user bits ∷ []) (none : None ≡ first_refusal (market_of file) journal.history (Deposit name bits)) where
     same_quotes : quotes_of (with_assets members user now) ≡ quotes_of members
     same_quotes = quotes_same members user before now there
@@ -83,18 +85,18 @@ module _ {P A Plan : Type 0} (weights_stand : P → Meaning → Type 0) (gains_s
         (history ∙ ap (λ (v : ℕ). journal.history ++ Deposits v bits ∷ []) is_user.number) same_quotes
 
     -- the market is kept
-    pub deposit_kept : new_journal.max_trades ≡ journal.max_trades
+    pub deposit_kept : TakesAsMuch journal new_journal
         → ((h : Holding) → Owns gains_stand before h → h.deposited + bits ≤ max_bits → Owns gains_stand now (with_deposit bits h))
-        → new_accounts ≡ slice_set accounts user (let account = account_of accounts user in record account { deposited = account.deposited + file.points_per_bit * bits })
-        → IsKept weights_stand gains_stand plan_for file prices rows plan (with_assets members user now) new_accounts new_journal payments
+        → new_ledger ≡ record ledger { accounts = slice_set ledger.accounts user (let account = account_of ledger.accounts user in record account { deposited = account.deposited + file.points_per_bit * bits }) }
+        → IsKept weights_stand gains_stand plan_for file prices rows plan (with_assets members user now) new_ledger new_journal payments till
     unfolding reply
-    deposit_kept limit deposits paid =
+    deposit_kept limits deposits paid =
         let H = journal.history in
-        kept_grown weights_stand gains_stand plan_for file prices prices rows rows plan members (with_assets members user now) accounts new_accounts journal new_journal payments payments
+        kept_grown weights_stand gains_stand plan_for file prices prices rows rows plan members (with_assets members user now) ledger new_ledger journal new_journal payments payments till till
         (Deposits user bits) (Deposit name bits) reply tt tt tt kept fit next
         (record {
           history = history;
-          limit = limit;
+          limits = limits;
           prices_grown = λ m stands. stands;
           rows_grown = λ m stands. stands;
           names = names_same members user before now there ∙ kept.named ∙ sym (not_found H (Deposits user bits) Rattle.mk_exact.specs.History.join_in refl);
@@ -102,8 +104,10 @@ module _ {P A Plan : Type 0} (weights_stand : P → Meaning → Type 0) (gains_s
               (subst (Owns gains_stand now) (sym (deposit_holding file.net file.tree H user bits)) (deposits (holding_of file.net file.tree H user) (kept.owns user before there) bits_fit))
               (deposit_others file.net file.tree H user bits);
           none_quoted = λ u quote at. subst (λ (qs : List (Option LastQuote)). slice_get qs u ≡ Some (Some quote)) same_quotes at;
-          accounts = rw paid (accounts_deposited (market_of file) H (unsettled (market_of file) H (Deposit name bits) none) accounts user bits (file.points_per_bit * bits) is_user.within refl kept.accounts_kept);
+          accounts = rw paid (accounts_deposited (market_of file) H (unsettled (market_of file) H (Deposit name bits) none) ledger.accounts user bits (file.points_per_bit * bits) is_user.within refl kept.accounts_kept);
+          ledger_room = rw paid kept.ledger_room;
           room = λ unsettled. kept.room (sym (not_there H (Deposits user bits) is_settlement refl) ∙ unsettled);
+          till_room = λ unsettled. kept.till_room (sym (not_there H (Deposits user bits) is_settlement refl) ∙ unsettled);
         })
 
     pub deposit_allowed : (at : ℕ) → at ≡ revision new_journal.history → IsAllowedFor (market_of file) (standing_of journal members) (OfCommand (Deposit name bits)) (Deposited name bits at)

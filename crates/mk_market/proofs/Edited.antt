@@ -18,7 +18,7 @@ use Rattle.mk_tree.specs.Given.{GivenTree}
 use Rattle.mk_file.specs.declared.market_file.MarketFile.{MarketFile}
 use Rattle.mk_file.specs.MarketOf.{market_of}
 use Rattle.mk_engine.specs.Meaning.{Meaning}
-use Rattle.mk_cash.specs.declared.ledger.Account.{Account}
+use Rattle.mk_cash.specs.Accounts.{LedgerOf}
 use Rattle.mk_command.specs.declared.command.Command.TheVariants.{Limits, Edit}
 use Rattle.mk_quote.specs.declared.quote.Quote.{Quote}
 use Rattle.mk_quote.specs.Bounds.{AreRightFor, AreFairAndSolvent}
@@ -54,6 +54,7 @@ use Rattle.mk_reply.specs.Replies.{IsRatio}
 use Rattle.mk_restore.specs.Restoring.{IsFit}
 use Rattle.mk_restore.proofs.Taken.{allowed_fits}
 use Rattle.mk_market.proofs.Together.{condition_comes}
+use Rattle.mk_replay.specs.Tills.{TillOf}
 
 -- ---- a refusal
 
@@ -202,8 +203,8 @@ module _ {A Plan : Type 0} (file : MarketFile) (journal : JournalOf) (members : 
 -- ---- the market
 
 module _ {P A Plan : Type 0} (weights_stand : P → Meaning → Type 0) (gains_stand : A → Meaning → Type 0) (plan_for : Plan → List Variable → GivenTree → Type 0)
-    (file : MarketFile) (prices : P) (rows : A) (plan : Plan) (members new_members : List (Member A Plan)) (accounts : List Account) (journal : JournalOf)
-    (payments : Option (List Payment)) (kept : IsKept weights_stand gains_stand plan_for file prices rows plan members accounts journal payments)
+    (file : MarketFile) (prices : P) (rows : A) (plan : Plan) (members new_members : List (Member A Plan)) (ledger : LedgerOf) (journal : JournalOf)
+    (payments : Option (List Payment)) (till : Option TillOf) (kept : IsKept weights_stand gains_stand plan_for file prices rows plan members ledger journal payments till)
     (name : List ℕ) (user : ℕ) (is_user : IsUser journal.history name user) (q : QuestionText) (asked : Asked)
     (is_question : IsQuestionFor (market_of file) file.tree journal.history q asked)
     (quote : Quote) (is : IsQuoteOf file.net file.tree journal.history user asked quote) (are : AreQuoted gains_stand members new_members user (LastLimits quote)) where
@@ -217,7 +218,7 @@ module _ {P A Plan : Type 0} (weights_stand : P → Meaning → Type 0) (gains_s
       is_question.named))
 
   open_for : IsOpen file.net file.tree journal.history
-  open_for = is_open weights_stand gains_stand plan_for file prices rows plan members accounts journal payments kept
+  open_for = is_open weights_stand gains_stand plan_for file prices rows plan members ledger journal payments till kept
 
   right_for_user : AreRightFor (bounds_of quote) (limits_of quote) → AreRightLimits file.net journal.history (user_number journal.history name) asked (limits_of quote)
   right_for_user right =
@@ -227,13 +228,13 @@ module _ {P A Plan : Type 0} (weights_stand : P → Meaning → Type 0) (gains_s
   -- the limits of a question
   pub limits_answered : (limits : Option (ℕ × ℕ)) (at : ℕ) → None ≡ first_refusal (market_of file) journal.history (Limits name q)
       → limits ≡ limits_of quote → AreRightFor (bounds_of quote) limits → at ≡ revision journal.history
-      → IsAnswered (trading file accounts journal members)
-      (trading file accounts journal new_members) (Limits name q) (Limited limits at)
+      → IsAnswered (trading file ledger journal members)
+      (trading file ledger journal new_members) (Limits name q) (Limited limits at)
   limits_answered limits at none its right now =
       let reply = Limited (limits_of quote) (revision journal.history) in
       let printed : Limited limits at ≡ reply = ap₂ (λ (l : Option (ℕ × ℕ)) (n : ℕ). Limited l n) its now in
-      subst (IsAnswered (trading file accounts journal members)
-      (trading file accounts journal new_members) (Limits name q)) (sym printed)
+      subst (IsAnswered (trading file ledger journal members)
+      (trading file ledger journal new_members) (Limits name q)) (sym printed)
       (record {
         market = refl;
         allowed = λ sound. answer_allowed (market_of file) (standing_of journal members) (Limits name q) reply none
@@ -247,14 +248,14 @@ module _ {P A Plan : Type 0} (weights_stand : P → Meaning → Type 0) (gains_s
   pub beyond_answered : (X : ℕ) (seen : Option ℕ) (limits : Option (ℕ × ℕ)) → None ≡ first_refusal (market_of file) journal.history (Edit name q X seen)
       → limits ≡ limits_of quote → AreRightFor (bounds_of quote) limits → ¬ Inside (limits_of quote) X
       → ((held : Quote) → slice_get (quotes_of members) user ≡ Some (Some (LastLimits held)) → IsFor held asked (revision journal.history) → quote ≡ held)
-      → IsAnswered (trading file accounts journal members)
-      (trading file accounts journal new_members) (Edit name q X seen) (Refused (Beyond limits))
+      → IsAnswered (trading file ledger journal members)
+      (trading file ledger journal new_members) (Edit name q X seen) (Refused (Beyond limits))
   beyond_answered X seen limits none its right outside last =
       let reply = Refused (Beyond (limits_of quote)) in
       let printed : Refused (Beyond limits) ≡ reply = ap (λ (l : Option (ℕ × ℕ)). Refused (Beyond l)) its in
       let beyond : IsBeyond (limits_of quote) X reply = record { outside = outside; printed = refl } in
-      subst (IsAnswered (trading file accounts journal members)
-      (trading file accounts journal new_members) (Edit name q X seen)) (sym printed)
+      subst (IsAnswered (trading file ledger journal members)
+      (trading file ledger journal new_members) (Edit name q X seen)) (sym printed)
       (record {
         market = refl;
         allowed = λ sound. edit_allowed file journal members name user is_user q asked is_question quote last X seen reply none
@@ -318,10 +319,10 @@ module _ (file : MarketFile) (journal : JournalOf) (open_for : IsOpen file.net f
         ∙ ap (λ (n : ℕ). journal.history ++ option_to_list (option_map (λ (a : Asked). Trade n (ratio_in file.net a hit miss)) (question_named file.net q))) is_user.number)
         same_quotes
 
-    pub trade_answered : (accounts : List Account)
-        → IsAnswered (trading file accounts journal members)
-        (trading file accounts new_journal new_members) (Edit name q X seen) (Traded hit miss at)
-    trade_answered accounts = record {
+    pub trade_answered : (ledger : LedgerOf)
+        → IsAnswered (trading file ledger journal members)
+        (trading file ledger new_journal new_members) (Edit name q X seen) (Traded hit miss at)
+    trade_answered ledger = record {
       market = nothing_added (market_of file) (standing_of journal members) (Edit name q X seen)
           (Traded hit miss at) tt;
       allowed = λ sound. trade_allowed;

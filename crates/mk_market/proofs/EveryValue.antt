@@ -36,7 +36,7 @@ use Rattle.mk_rules.specs.Transcript.{Standing, OfCommand, IsAllowedFor}
 use Rattle.mk_rules.proofs.Spreads.{spread_parts}
 use Rattle.mk_assets.specs.declared.assets.Assets.{Assets}
 use Rattle.mk_assets.specs.Holdings.{Holding, Owns}
-use Rattle.mk_cash.specs.declared.ledger.Account.{Account}
+use Rattle.mk_cash.specs.Accounts.{LedgerOf}
 use Rattle.mk_reply.specs.declared.payments.Payment.{Payment}
 use Rattle.mk_record.specs.declared.last_quote.LastQuote.{LastQuote}
 use Rattle.mk_record.specs.declared.users.Member.{Member}
@@ -48,6 +48,7 @@ use Rattle.mk_market.proofs.Growing.{kept_still}
 use Rattle.mk_market.proofs.Owned.{names_same, quotes_same, all_still}
 use Rattle.mk_market.proofs.Replies.{answer_allowed, refusal_allowed, stopped_by_states, unrefused}
 use Rattle.mk_market.proofs.Together.{none_together}
+use Rattle.mk_replay.specs.Tills.{TillOf}
 
 -- ---- questions that are not resolved
 
@@ -199,19 +200,19 @@ module _ {P A Plan : Type 0} (weights_stand : P → Meaning → Type 0) (gains_s
     → Type 0)
     (plan_for : Plan → List Variable → GivenTree
     → Type 0) (file : MarketFile) (prices : P) (rows : A) (plan : Plan)
-    (members : List (Member A Plan)) (accounts : List Account) (journal : JournalOf)
-    (payments : Option (List Payment))
-    (kept : IsKept weights_stand gains_stand plan_for file prices rows plan members accounts journal
-    payments) where
+    (members : List (Member A Plan)) (ledger : LedgerOf) (journal : JournalOf)
+    (payments : Option (List Payment)) (till : Option TillOf)
+    (kept : IsKept weights_stand gains_stand plan_for file prices rows plan members ledger journal
+    payments till) where
   pub position_kept : (new_prices : P) → ((m : Meaning) → weights_stand prices m
       → weights_stand new_prices m) →
       (user : ℕ) (before now : Assets A Plan) → slice_get (assets_of members) user ≡ Some before →
       ((h : Holding) → Owns gains_stand before h → Owns gains_stand now h) →
       IsKept weights_stand gains_stand plan_for file new_prices rows plan
-      (with_assets members user now) accounts journal payments
+      (with_assets members user now) ledger journal payments till
   position_kept new_prices stands_still user before now there still =
       kept_still weights_stand gains_stand plan_for file prices new_prices rows plan members
-      (with_assets members user now) accounts journal payments kept
+      (with_assets members user now) ledger journal payments till kept
       (record {
         prices_still = stands_still;
         names_still = names_same members user before now there;

@@ -97,6 +97,8 @@ parts_market file net tree = record {
   cliques = map (members net) tree.cliques;
   points_per_bit = file.points_per_bit;
   max_trades = file.max_trades;
+  max_users = file.max_users;
+  max_transfers = file.max_transfers;
   zeros = file.zeros;
 }
 
@@ -120,6 +122,8 @@ longer_market file a set of_net rising net tree is_net is_tree =
       cliques = cliques;
       points_per_bit = file.points_per_bit;
       max_trades = file.max_trades;
+      max_users = file.max_users;
+      max_transfers = file.max_transfers;
       zeros = file.zeros;
     }
 

@@ -17,7 +17,7 @@ use Rattle.mk_beliefs.proofs.Grown.{weights_grow}
 use Rattle.mk_beliefs.proofs.Initials.{rows_grow}
 use Rattle.mk_assets.specs.declared.assets.Assets.{Assets}
 use Rattle.mk_assets.specs.Holdings.{Holding, Owns}
-use Rattle.mk_cash.specs.declared.ledger.Account.{Account}
+use Rattle.mk_cash.specs.Accounts.{LedgerOf}
 use Rattle.mk_record.specs.declared.last_quote.LastQuote.{LastQuote}
 use Rattle.mk_command.specs.declared.command.Command.{Command}
 use Rattle.mk_reply.specs.declared.payments.Payment.{Payment}
@@ -36,7 +36,8 @@ use Rattle.mk_record.specs.declared.users.Member.{Member}
 use Rattle.mk_record.specs.Journals.{JournalOf}
 use Rattle.mk_record.specs.Members.{names_of, assets_of, quotes_of}
 use Rattle.mk_market.specs.Points.{AreAccounts}
-use Rattle.mk_market.specs.inner.Keeping.{standing_of, IsKeptQuote, IsKept}
+use Rattle.mk_market.specs.inner.Keeping.{standing_of, IsKeptQuote, IsKept, TakesAsMuch}
+use Rattle.mk_replay.specs.Tills.{TillOf, room_for}
 
 -- the market of a file is one
 pub market_is : (file : MarketFile) → IsNetwork file.net → IsTreeOf file.net file.tree
@@ -53,6 +54,10 @@ market_is file legal tree = record {
   few_points = file.points_most;
   some_trades = file.trades_positive;
   few_trades = file.trades_most;
+  some_users = file.users_positive;
+  few_users = file.users_most;
+  some_transfers = file.transfers_positive;
+  few_transfers = file.transfers_most;
   shares = file.no_zeros;
 }
 
@@ -77,9 +82,9 @@ quote_later network longer tree more H e u quote kept =
 
 module _ {P A Plan : Type 0} (weights_stand : P → Meaning → Type 0) (gains_stand : A → Meaning → Type 0) (plan_for : Plan → List Variable → GivenTree → Type 0) where
   -- a market that is kept is open
-  pub is_open : (file : MarketFile) (prices : P) (rows : A) (plan : Plan) (members : List (Member A Plan)) (accounts : List Account) (journal : JournalOf) (payments : Option (List Payment))
-      → IsKept weights_stand gains_stand plan_for file prices rows plan members accounts journal payments → IsOpen file.net file.tree journal.history
-  is_open file prices rows plan members accounts journal payments kept = record {
+  pub is_open : (file : MarketFile) (prices : P) (rows : A) (plan : Plan) (members : List (Member A Plan)) (ledger : LedgerOf) (journal : JournalOf) (payments : Option (List Payment)) (till : Option TillOf)
+      → IsKept weights_stand gains_stand plan_for file prices rows plan members ledger journal payments till → IsOpen file.net file.tree journal.history
+  is_open file prices rows plan members ledger journal payments till kept = record {
     legal = kept.legal;
     tree_of_it = kept.tree;
     proper = kept.safe.proper;
@@ -88,28 +93,30 @@ module _ {P A Plan : Type 0} (weights_stand : P → Meaning → Type 0) (gains_s
 
   -- what the parts of a market became by an entry
   pub record AreGrown (file : MarketFile) (journal new_journal : JournalOf) (e : Entry) (prices new_prices : P) (rows new_rows : A) (members new_members : List (Member A Plan))
-      (new_accounts : List Account) (new_payments : Option (List Payment)) : Type 0 where
+      (new_ledger : LedgerOf) (new_payments : Option (List Payment)) (new_till : Option TillOf) : Type 0 where
     pub history : new_journal.history ≡ journal.history ++ e ∷ []
-    pub limit : new_journal.max_trades ≡ journal.max_trades
+    pub limits : TakesAsMuch journal new_journal
     pub prices_grown : (m : Meaning) → weights_stand prices m → weights_stand new_prices (grown e m)
     pub rows_grown : (m : Meaning) → gains_stand rows m → gains_stand new_rows (grown_rows e m)
     pub names : names_of new_members ≡ users (journal.history ++ e ∷ [])
     pub owned : (u : ℕ) (assets : Assets A Plan) → slice_get (assets_of new_members) u ≡ Some assets
         → Owns gains_stand assets (holding_of file.net file.tree (journal.history ++ e ∷ []) u)
     pub none_quoted : (u : ℕ) (quote : LastQuote) → slice_get (quotes_of new_members) u ≡ Some (Some quote) → slice_get (quotes_of members) u ≡ Some (Some quote)
-    pub accounts : AreAccounts (market_of file) (journal.history ++ e ∷ []) new_accounts
+    pub accounts : AreAccounts (market_of file) (journal.history ++ e ∷ []) new_ledger.accounts
+    pub ledger_room : new_ledger.room ≡ file.max_users
     pub room : is_settled (journal.history ++ e ∷ []) ≡ false → new_payments ≡ Some []
+    pub till_room : is_settled (journal.history ++ e ∷ []) ≡ false → new_till ≡ Some (room_for file.max_users)
 
   -- a reply that is taken back leads from a market that is kept to one that is
-  pub kept_grown : (file : MarketFile) (prices new_prices : P) (rows new_rows : A) (plan : Plan) (members new_members : List (Member A Plan)) (accounts new_accounts : List Account)
-      (journal new_journal : JournalOf) (payments new_payments : Option (List Payment)) (e : Entry) (command : Command) (reply : Reply)
+  pub kept_grown : (file : MarketFile) (prices new_prices : P) (rows new_rows : A) (plan : Plan) (members new_members : List (Member A Plan)) (ledger new_ledger : LedgerOf)
+      (journal new_journal : JournalOf) (payments new_payments : Option (List Payment)) (till new_till : Option TillOf) (e : Entry) (command : Command) (reply : Reply)
       → JoinsByName (OfCommand command) → IsNoAddition command → HasUnits reply
-      → IsKept weights_stand gains_stand plan_for file prices rows plan members accounts journal payments
+      → IsKept weights_stand gains_stand plan_for file prices rows plan members ledger journal payments till
       → IsFit (market_of file) journal.history command reply
       → standing_of new_journal new_members ≡ after (market_of file) (standing_of journal members) (OfCommand command) reply
-      → AreGrown file journal new_journal e prices new_prices rows new_rows members new_members new_accounts new_payments
-      → IsKept weights_stand gains_stand plan_for file new_prices new_rows plan new_members new_accounts new_journal new_payments
-  kept_grown file prices new_prices rows new_rows plan members new_members accounts new_accounts journal new_journal payments new_payments e command reply joins other units kept fit next are =
+      → AreGrown file journal new_journal e prices new_prices rows new_rows members new_members new_ledger new_payments new_till
+      → IsKept weights_stand gains_stand plan_for file new_prices new_rows plan new_members new_ledger new_journal new_payments new_till
+  kept_grown file prices new_prices rows new_rows plan members new_members ledger new_ledger journal new_journal payments new_payments till new_till e command reply joins other units kept fit next are =
       let market = market_of file in
       let back : journal.history ++ e ∷ [] ≡ new_journal.history = sym are.history in
       record {
@@ -124,11 +131,15 @@ module _ {P A Plan : Type 0} (weights_stand : P → Meaning → Type 0) (gains_s
         owns = λ u assets at. subst (λ (H : List Entry). Owns gains_stand assets (holding_of file.net file.tree H u)) back (are.owned u assets at);
         quotes_kept = λ u quote at. subst (λ (H : List Entry). IsKeptQuote file.net file.tree H u quote) back
             (quote_later file.net file.net file.tree file.tree journal.history e u quote (kept.quotes_kept u quote (are.none_quoted u quote at)));
-        accounts_kept = subst (λ (H : List Entry). AreAccounts (market_of file) H new_accounts) back are.accounts;
+        accounts_kept = subst (λ (H : List Entry). AreAccounts (market_of file) H new_ledger.accounts) back are.accounts;
+        ledger_room = are.ledger_room;
         safe = subst (λ (now : Standing). IsSafe market now.history) (sym next)
             (fit_stays_safe market journal.history command reply joins other units kept.safe fit);
-        max_trades = are.limit ∙ kept.max_trades;
+        max_trades = are.limits.trades ∙ kept.max_trades;
+        max_users = are.limits.users ∙ kept.max_users;
+        max_transfers = are.limits.transfers ∙ kept.max_transfers;
         room = λ unsettled. are.room (subst (λ (H : List Entry). is_settled H ≡ false) are.history unsettled);
+        till_room = λ unsettled. are.till_room (subst (λ (H : List Entry). is_settled H ≡ false) are.history unsettled);
       }
 
   -- engines and assets that stand for all that they stood for, beside the same names and quotes
@@ -140,12 +151,12 @@ module _ {P A Plan : Type 0} (weights_stand : P → Meaning → Type 0) (gains_s
         → (before : Assets A Plan) × (slice_get (assets_of members) u ≡ Some before) × ((h : Holding) → Owns gains_stand before h → Owns gains_stand assets h)
 
   -- an answer that appends none
-  pub kept_still : (file : MarketFile) (prices new_prices : P) (rows : A) (plan : Plan) (members new_members : List (Member A Plan)) (accounts : List Account)
-      (journal : JournalOf) (payments : Option (List Payment))
-      → IsKept weights_stand gains_stand plan_for file prices rows plan members accounts journal payments
+  pub kept_still : (file : MarketFile) (prices new_prices : P) (rows : A) (plan : Plan) (members new_members : List (Member A Plan)) (ledger : LedgerOf)
+      (journal : JournalOf) (payments : Option (List Payment)) (till : Option TillOf)
+      → IsKept weights_stand gains_stand plan_for file prices rows plan members ledger journal payments till
       → AreStill prices new_prices members new_members
-      → IsKept weights_stand gains_stand plan_for file new_prices rows plan new_members accounts journal payments
-  kept_still file prices new_prices rows plan members new_members accounts journal payments kept are = record {
+      → IsKept weights_stand gains_stand plan_for file new_prices rows plan new_members ledger journal payments till
+  kept_still file prices new_prices rows plan members new_members ledger journal payments till kept are = record {
     legal = kept.legal;
     tree = kept.tree;
     planned = kept.planned;
@@ -157,17 +168,21 @@ module _ {P A Plan : Type 0} (weights_stand : P → Meaning → Type 0) (gains_s
         own.2 (holding_of file.net file.tree journal.history u) (kept.owns u (own.0) (own.1));
     quotes_kept = λ u quote at. kept.quotes_kept u quote (subst (λ (qs : List (Option LastQuote)). slice_get qs u ≡ Some (Some quote)) are.quotes_still at);
     accounts_kept = kept.accounts_kept;
+    ledger_room = kept.ledger_room;
     safe = kept.safe;
     max_trades = kept.max_trades;
+    max_users = kept.max_users;
+    max_transfers = kept.max_transfers;
     room = kept.room;
+    till_room = kept.till_room;
   }
 
   -- the engine of initial weights may change as long as it stands for all that it stood for
-  pub rows_kept : (file : MarketFile) (prices : P) (rows new_rows : A) (plan : Plan) (members : List (Member A Plan)) (accounts : List Account) (journal : JournalOf)
-      (payments : Option (List Payment)) → IsKept weights_stand gains_stand plan_for file prices rows plan members accounts journal payments
+  pub rows_kept : (file : MarketFile) (prices : P) (rows new_rows : A) (plan : Plan) (members : List (Member A Plan)) (ledger : LedgerOf) (journal : JournalOf)
+      (payments : Option (List Payment)) (till : Option TillOf) → IsKept weights_stand gains_stand plan_for file prices rows plan members ledger journal payments till
       → ((m : Meaning) → gains_stand rows m → gains_stand new_rows m)
-      → IsKept weights_stand gains_stand plan_for file prices new_rows plan members accounts journal payments
-  rows_kept file prices rows new_rows plan members accounts journal payments kept still = record {
+      → IsKept weights_stand gains_stand plan_for file prices new_rows plan members ledger journal payments till
+  rows_kept file prices rows new_rows plan members ledger journal payments till kept still = record {
     legal = kept.legal;
     tree = kept.tree;
     planned = kept.planned;
@@ -177,7 +192,11 @@ module _ {P A Plan : Type 0} (weights_stand : P → Meaning → Type 0) (gains_s
     owns = kept.owns;
     quotes_kept = kept.quotes_kept;
     accounts_kept = kept.accounts_kept;
+    ledger_room = kept.ledger_room;
     safe = kept.safe;
     max_trades = kept.max_trades;
+    max_users = kept.max_users;
+    max_transfers = kept.max_transfers;
     room = kept.room;
+    till_room = kept.till_room;
   }

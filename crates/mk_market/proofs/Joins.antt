@@ -13,8 +13,7 @@ use Rattle.mk_file.specs.MarketOf.{market_of}
 use Rattle.mk_engine.specs.Meaning.{Meaning}
 use Rattle.mk_assets.specs.declared.assets.Assets.{Assets}
 use Rattle.mk_assets.specs.Holdings.{Owns, opening_holding}
-use Rattle.mk_cash.specs.declared.ledger.Account.{Account}
-use Rattle.mk_cash.specs.Accounts.{account_of, empty_account}
+use Rattle.mk_cash.specs.Accounts.{account_of, empty_account, LedgerOf}
 use Rattle.mk_command.specs.declared.command.Command.TheVariants.{User}
 use Rattle.mk_reply.specs.declared.payments.Payment.{Payment}
 use Rattle.mk_reply.specs.declared.refusal.Refusal.TheVariants.{Memory}
@@ -28,12 +27,13 @@ use Rattle.mk_record.specs.Journals.{JournalOf}
 use Rattle.mk_record.specs.Members.{new_member, names_of, quotes_of}
 use Rattle.mk_market.specs.Points.{ArePaidBy}
 use Rattle.mk_market.specs.Trading.{Trading, IsAnswered}
-use Rattle.mk_market.specs.inner.Keeping.{quoted, standing_of, IsKept}
+use Rattle.mk_market.specs.inner.Keeping.{quoted, standing_of, IsKept, TakesAsMuch}
 use Rattle.mk_record.proofs.Appends.{not_there}
 use Rattle.mk_market.proofs.Growing.{kept_grown}
 use Rattle.mk_market.proofs.Owned.{owned_joined, none_quoted_joined}
 use Rattle.mk_market.proofs.Accounted.{paid_opened, accounts_joined}
 use Rattle.mk_market.proofs.Replies.{answer_allowed, refused_stays, unsettled}
+use Rattle.mk_replay.specs.Tills.{TillOf}
 
 -- where memory is wanting nothing changes
 pub memory_answered : (now : Trading) (name : List ℕ) → None ≡ first_refusal now.market now.standing.history (User name) → IsAnswered now now (User name) (Refused Memory)
@@ -45,12 +45,12 @@ memory_answered now name none = record {
 }
 
 module _ {P A Plan : Type 0} (weights_stand : P → Meaning → Type 0) (gains_stand : A → Meaning → Type 0) (plan_for : Plan → List Variable → GivenTree → Type 0)
-    (file : MarketFile) (prices : P) (rows : A) (plan : Plan) (members : List (Member A Plan)) (accounts : List Account) (journal : JournalOf) (payments : Option (List Payment))
-    (kept : IsKept weights_stand gains_stand plan_for file prices rows plan members accounts journal payments)
+    (file : MarketFile) (prices : P) (rows : A) (plan : Plan) (members : List (Member A Plan)) (ledger : LedgerOf) (journal : JournalOf) (payments : Option (List Payment)) (till : Option TillOf)
+    (kept : IsKept weights_stand gains_stand plan_for file prices rows plan members ledger journal payments till)
     (name : List ℕ) where
   module _ (assets : Assets A Plan) (known : List Pair) (known_is : known ≡ resolutions journal.history)
       (owns : Owns gains_stand assets (opening_holding file.net file.tree known)) (new_members : List (Member A Plan)) (more : new_members ≡ members ++ new_member name assets ∷ [])
-      (new_accounts : List Account) (new_journal : JournalOf) (history : new_journal.history ≡ journal.history ++ Join name ∷ [])
+      (new_ledger : LedgerOf) (new_journal : JournalOf) (history : new_journal.history ≡ journal.history ++ Join name ∷ [])
       (none : None ≡ first_refusal (market_of file) journal.history (User name)) where
     quotes_more : map (option_map quoted) (quotes_of new_members) ≡ map (option_map quoted) (quotes_of members) ++ None ∷ []
     quotes_more =
@@ -73,10 +73,10 @@ module _ {P A Plan : Type 0} (weights_stand : P → Meaning → Type 0) (gains_s
           (ap (λ (H : List Entry). length H) history ∙ length_push journal.history (Join name));
     }
 
-    pub join_paid : (at : ℕ) → new_accounts ≡ accounts ++ empty_account ∷ []
-        → ArePaidBy (Joined name at) accounts new_accounts
-    join_paid at opened u = ap (λ (xs : List Account). (account_of xs u).paid) opened ∙ paid_opened
-        accounts u
+    pub join_paid : (at : ℕ) → new_ledger ≡ record ledger { accounts = ledger.accounts ++ empty_account ∷ [] }
+        → ArePaidBy (Joined name at) ledger.accounts new_ledger.accounts
+    join_paid at opened u = ap (λ (l : LedgerOf). (account_of l.accounts u).paid) opened ∙ paid_opened
+        ledger.accounts u
 
     names_more : names_of new_members ≡ users (journal.history ++ Join name ∷ [])
     names_more =
@@ -84,21 +84,23 @@ module _ {P A Plan : Type 0} (weights_stand : P → Meaning → Type 0) (gains_s
         ∙ ap (λ (names : List (List ℕ)). names ++ name ∷ []) kept.named ∙ sym (users_more journal.history name)
 
     -- the market is kept
-    pub join_kept : IsName name → new_journal.max_trades ≡ journal.max_trades → new_accounts ≡ accounts ++ empty_account ∷ []
-        → IsKept weights_stand gains_stand plan_for file prices rows plan new_members new_accounts new_journal payments
-    join_kept is_name limit opened =
+    pub join_kept : IsName name → TakesAsMuch journal new_journal → new_ledger ≡ record ledger { accounts = ledger.accounts ++ empty_account ∷ [] }
+        → IsKept weights_stand gains_stand plan_for file prices rows plan new_members new_ledger new_journal payments till
+    join_kept is_name limits opened =
         let H = journal.history in
-        kept_grown weights_stand gains_stand plan_for file prices prices rows rows plan members new_members accounts new_accounts journal new_journal payments payments
+        kept_grown weights_stand gains_stand plan_for file prices prices rows rows plan members new_members ledger new_ledger journal new_journal payments payments till till
         (Join name) (User name) (Joined name (revision new_journal.history)) is_name tt tt kept join_fit (join_next (revision new_journal.history))
         (record {
           history = history;
-          limit = limit;
+          limits = limits;
           prices_grown = λ m stands. stands;
           rows_grown = λ m stands. stands;
           names = names_more;
           owned = rw more (owned_joined file.net file.tree H name gains_stand members assets kept.named kept.safe.proper kept.safe.bounded.transfers_fit kept.owns
               (subst (λ (ps : List Pair). Owns gains_stand assets (opening_holding file.net file.tree ps)) known_is owns));
           none_quoted = rw more (none_quoted_joined file.net file.tree H name members assets);
-          accounts = rw opened (accounts_joined (market_of file) H (unsettled (market_of file) H (User name) none) accounts name kept.safe.bounded.transfers_fit kept.accounts_kept);
+          accounts = rw opened (accounts_joined (market_of file) H (unsettled (market_of file) H (User name) none) ledger.accounts name kept.safe.bounded.transfers_fit kept.accounts_kept);
+          ledger_room = rw opened kept.ledger_room;
           room = λ unsettled. kept.room (sym (not_there H (Join name) is_settlement refl) ∙ unsettled);
+          till_room = λ unsettled. kept.till_room (sym (not_there H (Join name) is_settlement refl) ∙ unsettled);
         })

@@ -26,6 +26,7 @@ pub mod Told
 pub mod Resolvable
 pub mod Resolved
 pub mod Paid
+pub mod Fitting
 pub mod Settlement
 pub mod Homes
 pub mod TakenBack
@@ -34,3 +35,4 @@ pub mod Booked
 pub mod Retold
 pub mod Following
 pub mod Regrowing
+pub mod PaidOut

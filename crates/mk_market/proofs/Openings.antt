@@ -12,13 +12,14 @@ use Rattle.mk_engine.specs.Meaning.{Meaning, Factor, RowsOf, with_factor}
 use Rattle.mk_beliefs.specs.Meanings.{weights_of, rows_of}
 use Rattle.mk_beliefs.proofs.Grown.{opening_is_rows}
 use Rattle.mk_beliefs.proofs.Initials.{rows_open}
-use Rattle.mk_cash.specs.declared.ledger.Account.{Account}
+use Rattle.mk_cash.specs.Accounts.{LedgerOf}
 use Rattle.mk_reply.specs.declared.payments.Payment.{Payment}
 use Rattle.mk_restore.proofs.Safe.{opening_is_safe}
 use Rattle.mk_record.specs.declared.users.Member.{Member}
 use Rattle.mk_record.specs.Journals.{JournalOf}
 use Rattle.mk_market.specs.inner.Keeping.{IsKept}
 use Rattle.mk_market.proofs.Growing.{market_is}
+use Rattle.mk_replay.specs.Tills.{TillOf, room_for}
 
 -- the rows of the first variables, in order, and nothing known
 abbrev pub first_rows : List Variable → GivenTree → ℕ → Meaning
@@ -41,13 +42,15 @@ pub opening_weights : (network : List Variable) (tree : GivenTree) → rows_of n
 opening_weights network tree = rows_open network tree ∙ sym ((opening_is_rows network tree 0).0)
 
 pub opening_kept : {P A Plan : Type 0} (weights_stand : P → Meaning → Type 0) (gains_stand : A → Meaning → Type 0) (plan_for : Plan → List Variable → GivenTree → Type 0)
-    (file : MarketFile) (prices : P) (rows : A) (plan : Plan) (members : List (Member A Plan)) (accounts : List Account) (journal : JournalOf) (payments : List Payment)
+    (file : MarketFile) (prices : P) (rows : A) (plan : Plan) (members : List (Member A Plan)) (ledger : LedgerOf) (journal : JournalOf) (payments : List Payment) (till : TillOf)
     → IsNetwork file.net → IsTreeOf file.net file.tree → plan_for plan file.net file.tree → weights_stand prices (weights_of file.net file.tree [])
     → gains_stand rows (rows_of file.net file.tree [])
-    → members ≡ [] → accounts ≡ [] → journal ≡ record { history = []; max_trades = file.max_trades } → payments ≡ []
-    → IsKept weights_stand gains_stand plan_for file prices rows plan members accounts journal (Some payments)
-opening_kept weights_stand gains_stand plan_for file prices rows plan members accounts journal payments legal tree planned prices_stand rows_stand no_member no_account begun none =
-    rw (no_member, no_account, begun, none) (record {
+    → members ≡ [] → ledger ≡ record { accounts = []; room = file.max_users }
+    → journal ≡ record { history = []; max_trades = file.max_trades; max_users = file.max_users; max_transfers = file.max_transfers }
+    → payments ≡ [] → till ≡ room_for file.max_users
+    → IsKept weights_stand gains_stand plan_for file prices rows plan members ledger journal (Some payments) (Some till)
+opening_kept weights_stand gains_stand plan_for file prices rows plan members ledger journal payments till legal tree planned prices_stand rows_stand no_member no_account begun none room =
+    rw (no_member, no_account, begun, none, room) (record {
       legal = legal;
       tree = tree;
       planned = planned;
@@ -57,7 +60,11 @@ opening_kept weights_stand gains_stand plan_for file prices rows plan members ac
       owns = λ u assets at. absurd (cc);
       quotes_kept = λ u quote at. absurd (cc);
       accounts_kept = record { one_each = refl; each = λ u h. absurd (omega (arith, h)) };
+      ledger_room = refl;
       safe = opening_is_safe (market_of file) (market_is file legal tree);
       max_trades = refl;
+      max_users = refl;
+      max_transfers = refl;
       room = λ h. refl;
+      till_room = λ h. refl;
     })

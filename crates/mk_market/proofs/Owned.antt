@@ -162,7 +162,7 @@ module _ (n : ℕ) where
   bits_none (Withdraw user bits) h = (refl, rw (ne_eqb user n (λ same. absurd (omega (arith, same, h.user)))) refl)
   bits_none (Trade user ratio) h = (refl, refl)
   bits_none (Resolve pair) h = (refl, refl)
-  bits_none Settle h = (refl, refl)
+  bits_none (Settle payments) h = (refl, refl)
   bits_none (Add addition) h = (refl, refl)
 
   pub none_moved : (H : List Entry) → AllByRecursion (FitsTransfer n) H → (deposited H n ≡ 0) × (withdrawn H n ≡ 0)
@@ -185,7 +185,7 @@ module _ (n : ℕ) where
       at false = omega arith
   bits_few u (Trade user ratio) h = (omega arith, omega arith)
   bits_few u (Resolve pair) h = (omega arith, omega arith)
-  bits_few u Settle h = (omega arith, omega arith)
+  bits_few u (Settle payments) h = (omega arith, omega arith)
   bits_few u (Add addition) h = (omega arith, omega arith)
 
   pub few_moved : (u : ℕ) (H : List Entry) → AllByRecursion (FitsTransfer n) H → (deposited H u ≤ 1000 * count_by is_transfer H) × (withdrawn H u ≤ 1000 * count_by is_transfer H)

@@ -1,6 +1,6 @@
 -- Users are paid, one after another.
 use Rattle.std.specs.Prelude.{◌≡◌, ℕ, ◌+◌, ◌<◌, ◌≤◌, ◌^◌, zero, suc, List, [], ◌∷◌, ◌++◌, length, map, take, Some, slice_get, slice_set, ◌⊎◌}
-use Rattle.std.specs.List.{AllZip, enumerate_from}
+use Rattle.std.specs.List.{AllByRecursion, AllZip, enumerate_from}
 use Rattle.std.proofs.Common.{refl, sym, ap, ap₂, add-zero, ◌∙◌, subst, inl, inr, arith}
 use Rattle.std.proofs.lemmas.Bool.{cases_eq}
 use Rattle.std.proofs.lemmas.List.{map-append, length-map, length_push, length-set, get_or-set_same, get_or-set_other}
@@ -8,7 +8,9 @@ use Rattle.std.proofs.lemmas.Option.{slice_get_within}
 use Rattle.mk_cash.specs.declared.ledger.Account.{Account}
 use Rattle.mk_cash.specs.Accounts.{account_of, empty_account}
 use Rattle.mk_engine.specs.Meaning.{Meaning}
+use Rattle.mk_net.specs.Bounds.{number_limit}
 use Rattle.mk_net.specs.Network.{Variable}
+use Rattle.mk_states.proofs.Sums.{each-append}
 use Rattle.mk_exact.specs.Cash.{CoversCash}
 use Rattle.mk_states.specs.Events.{always}
 use Rattle.mk_exact.specs.Existing.{HasLeast}
@@ -91,41 +93,34 @@ next_of {X} (y ∷ xs) m (suc n) x e =
     ∙ ap (λ (rest : List (ℕ × X)). (m, y) ∷ rest) (next_of xs (m + 1) n x e)
     ∙ ap (λ (j : ℕ). (m, y) ∷ (enumerate_from (m + 1) (take n xs) ++ (j, x) ∷ [])) l
 
-module _ {A Plan : Type 0} (gains_stand : A → Meaning → Type 0) (network : List Variable) (H : List Entry) (points : ℕ) (old : List (Member A Plan)) (accounts : List Account) where
-  -- the users before a place are paid, and none from there on
-  pub record ArePaidBefore (n : ℕ) (new : List (Member A Plan)) (ledger : List Account) (payments : List Payment) : Type 0 where
+module _ {A Plan : Type 0} (gains_stand : A → Meaning → Type 0) (network : List Variable) (H : List Entry) (points : ℕ) (old : List (Member A Plan)) where
+  -- the users before a place have their payments
+  pub record ArePaidBefore (n : ℕ) (new : List (Member A Plan)) (payments : List Payment) : Type 0 where
     pub names : names_of new ≡ names_of old
     pub quotes : quotes_of new ≡ quotes_of old
     pub owned : (u : ℕ) (h : Holding) → OwnsAt gains_stand old u h → OwnsAt gains_stand new u h
-    pub entered : ArePaid accounts ledger payments
-    pub unpaid : (u : ℕ) → n ≤ u → (account_of ledger u).paid ≡ (account_of accounts u).paid
     pub made : length payments ≡ n
     pub in_order : map (λ (p : Payment). p.user) payments ≡ take n (names_of old)
+    pub low_ends : AllByRecursion (λ (p : Payment). p.paid ≡ p.low) payments
+    pub lows_fit : AllByRecursion (λ (p : Payment). p.low < number_limit) payments
+    pub highs_fit : AllByRecursion (λ (p : Payment). p.high < number_limit) payments
     pub paid : IsSound network H → (state : List ℕ) → possible_states network H always ≡ state ∷ []
         → AllZip (IsPayment network H points state) (enumerate_from 0 (take n (names_of old)))
         payments
 
-  pub one_paid : (n : ℕ) (before now : List (Member A Plan)) (ledger new_ledger : List Account) (payments new_payments : List Payment) (payment : Payment) → n < length old
-      → length accounts ≡ length old → ArePaidBefore n before ledger payments
+  pub one_paid : (n : ℕ) (before now : List (Member A Plan)) (payments new_payments : List Payment) (payment : Payment) → n < length old
+      → ArePaidBefore n before payments
       → ((u : ℕ) (h : Holding) → OwnsAt gains_stand before u h → OwnsAt gains_stand now u h) → names_of now ≡ names_of before → quotes_of now ≡ quotes_of before
       → slice_get (names_of before) n ≡ Some payment.user
+      → payment.paid ≡ payment.low → payment.low < number_limit → payment.high < number_limit
       → (IsSound network H → (state name : List ℕ) → possible_states network H always ≡ state ∷ []
       → slice_get (names_of before) n ≡ Some name
       → IsPayment network H points state (n, name) payment)
-      → new_ledger ≡ slice_set ledger n (let account = account_of ledger n in record account { paid = account.paid + payment.paid })
-      → new_payments ≡ payments ++ payment ∷ [] → ArePaidBefore (n + 1) now new_ledger new_payments
-  one_paid n before now ledger new_ledger payments new_payments payment within one_each so_far still same_names same_quotes its_user is_paid entered pushed = record {
+      → new_payments ≡ payments ++ payment ∷ [] → ArePaidBefore (n + 1) now new_payments
+  one_paid n before now payments new_payments payment within so_far still same_names same_quotes its_user low_end low_fits high_fits is_paid pushed = record {
     names = same_names ∙ so_far.names;
     quotes = same_quotes ∙ so_far.quotes;
     owned = λ u h owns. still u h (so_far.owned u h owns);
-    entered = record {
-      count = ap (λ (xs : List Account). length xs) entered ∙ length-set ledger n entry ∙ so_far.entered.count;
-      paid = λ u given at. now_entered u given (push_cases payments u payment given (subst (λ (ps : List Payment). slice_get ps u ≡ Some given) pushed at));
-      paid_in = λ u. field_same (λ (a : Account). a.deposited) refl u ∙ so_far.entered.paid_in u;
-      taken_out = λ u. field_same (λ (a : Account). a.withdrawn) refl u ∙ so_far.entered.taken_out u;
-    };
-    unpaid = λ u later. ap (λ (xs : List Account). (account_of xs u).paid) entered
-        ∙ ap (λ (a : Account). a.paid) (get_or-set_other ledger n u entry empty_account (λ same. absurd (omega (arith, same, later)))) ∙ so_far.unpaid u (omega (arith, later));
     made = ap (λ (xs : List Payment). length xs) pushed ∙ length_push payments payment ∙ ap (λ (k : ℕ). k + 1) so_far.made;
     in_order =
         ap (map (λ (p : Payment). p.user)) pushed
@@ -133,35 +128,14 @@ module _ {A Plan : Type 0} (gains_stand : A → Meaning → Type 0) (network : L
         ∙ ap (λ (names : List (List ℕ)). names ++ payment.user ∷ []) so_far.in_order
         ∙ sym (take_more (names_of old) n payment.user
         (ap (λ (names : List (List ℕ)). slice_get names n) (sym so_far.names) ∙ its_user));
+    low_ends = each_now (λ (p : Payment). p.paid ≡ p.low) so_far.low_ends low_end;
+    lows_fit = each_now (λ (p : Payment). p.low < number_limit) so_far.lows_fit low_fits;
+    highs_fit = each_now (λ (p : Payment). p.high < number_limit) so_far.highs_fit high_fits;
     paid = λ sound state one. now_paid sound state one;
   }
     where
-      entry : Account
-      entry = let account = account_of ledger n in record account { paid = account.paid + payment.paid }
-
-      place : n < length ledger
-      place = omega (arith, within, one_each, so_far.entered.count)
-
-      field_same : (f : Account → ℕ) → f entry ≡ f (account_of ledger n) → (u : ℕ) → f (account_of new_ledger u) ≡ f (account_of ledger u)
-      field_same f same u = ap (λ (xs : List Account). f (account_of xs u)) entered ∙ at (cases_eq u n)
-        where
-          at : (u ≡ n) ⊎ (u ≡ n → ⊥) → f (account_of (slice_set ledger n entry) u) ≡ f (account_of ledger u)
-          at (inl e) =
-              ap (λ (k : ℕ). f (account_of (slice_set ledger n entry) k)) e ∙ ap f (get_or-set_same ledger n entry empty_account place) ∙ same
-              ∙ ap (λ (k : ℕ). f (account_of ledger k)) (sym e)
-          at (inr other) = ap f (get_or-set_other ledger n u entry empty_account other)
-
-      now_entered : (u : ℕ) (given : Payment) → ((u ≡ length payments) × (payment ≡ given)) ⊎ (slice_get payments u ≡ Some given)
-          → (account_of new_ledger u).paid ≡ (account_of accounts u).paid + given.paid
-      now_entered u given (inl p) =
-          let here : u ≡ n = p.0 ∙ so_far.made in
-          subst (λ (v : ℕ). (account_of new_ledger v).paid ≡ (account_of accounts v).paid + given.paid) (sym here)
-          (ap (λ (xs : List Account). (account_of xs n).paid) entered ∙ ap (λ (a : Account). a.paid) (get_or-set_same ledger n entry empty_account place)
-          ∙ ap₂ (λ (k : ℕ) (now : Payment). k + now.paid) (so_far.unpaid n (omega arith)) (p.1))
-      now_entered u given (inr at) =
-          let before : u < length payments = slice_get_within payments u given at in
-          ap (λ (xs : List Account). (account_of xs u).paid) entered
-          ∙ ap (λ (a : Account). a.paid) (get_or-set_other ledger n u entry empty_account (λ same. absurd (omega (arith, same, before, so_far.made)))) ∙ so_far.entered.paid u given at
+      each_now : (P : Payment → Type 0) → AllByRecursion P payments → P payment → AllByRecursion P new_payments
+      each_now P so_far its = subst (AllByRecursion P) (sym pushed) (each-append P payments (payment ∷ []) so_far (its, tt))
 
       now_paid : IsSound network H → (state : List ℕ) → possible_states network H always ≡ state ∷ []
           → AllZip (IsPayment network H points state)

@@ -11,7 +11,7 @@ use Rattle.mk_engine.specs.Meaning.{Meaning}
 use Rattle.mk_beliefs.specs.Meanings.{weights_of}
 use Rattle.mk_assets.specs.declared.assets.Assets.{Assets}
 use Rattle.mk_assets.specs.Holdings.{Holding}
-use Rattle.mk_cash.specs.declared.ledger.Account.{Account}
+use Rattle.mk_cash.specs.Accounts.{LedgerOf}
 use Rattle.mk_reply.specs.declared.payments.Payment.{Payment}
 use Rattle.mk_rules.specs.Answers as rules
 use Rattle.mk_rules.specs.Refusals.{user_number}
@@ -25,12 +25,13 @@ use Rattle.mk_market.specs.Trading.{Trading}
 use Rattle.mk_market.specs.inner.Keeping.{quoted, standing_of, IsKeptQuote, AreKeptQuotes, IsKept}
 use Rattle.mk_market.specs.inner.Quoting.{OwnsAt}
 use Rattle.mk_market.proofs.Lent.{in_range, read_set, names_beside, assets_beside, quotes_set}
+use Rattle.mk_replay.specs.Tills.{TillOf}
 
 -- a market as its callers see it
-abbrev pub trading : {A Plan : Type 0} → MarketFile → List Account → JournalOf
+abbrev pub trading : {A Plan : Type 0} → MarketFile → LedgerOf → JournalOf
     → List (Member A Plan) → Trading
-trading file accounts journal members = record
-    { market = market_of file; standing = standing_of journal members; accounts = accounts }
+trading file ledger journal members = record
+    { market = market_of file; standing = standing_of journal members; accounts = ledger.accounts }
 
 some_is : {X : Type 0} (x y : X) → Some x ≡ Some y → x ≡ y
 some_is x y e = cc
@@ -83,8 +84,8 @@ standing_quoted journal new_members quotes said =
     ap₂ (λ (H : List Entry) (qs : Quotes). record { history = H; quotes = qs }) (sym (append-nil journal.history)) said
 
 module _ {P A Plan : Type 0} (weights_stand : P → Meaning → Type 0) (gains_stand : A → Meaning → Type 0) (plan_for : Plan → List Variable → GivenTree → Type 0)
-    (file : MarketFile) (prices new_prices : P) (rows : A) (plan : Plan) (members new_members : List (Member A Plan)) (accounts : List Account) (journal : JournalOf)
-    (payments : Option (List Payment)) (kept : IsKept weights_stand gains_stand plan_for file prices rows plan members accounts journal payments)
+    (file : MarketFile) (prices new_prices : P) (rows : A) (plan : Plan) (members new_members : List (Member A Plan)) (ledger : LedgerOf) (journal : JournalOf)
+    (payments : Option (List Payment)) (till : Option TillOf) (kept : IsKept weights_stand gains_stand plan_for file prices rows plan members ledger journal payments till)
     (user : ℕ) (quote : LastQuote) (is : IsKeptQuote file.net file.tree journal.history user quote) (are : AreQuoted gains_stand members new_members user quote) where
   quotes_kept_then : AreKeptQuotes file.net file.tree journal.history (quotes_of new_members)
   quotes_kept_then =
@@ -93,7 +94,7 @@ module _ {P A Plan : Type 0} (weights_stand : P → Meaning → Type 0) (gains_s
 
   -- a market that was kept is kept beside a new quote
   pub kept_quoted : ((m : Meaning) → weights_stand prices m → weights_stand new_prices m)
-      → IsKept weights_stand gains_stand plan_for file new_prices rows plan new_members accounts journal payments
+      → IsKept weights_stand gains_stand plan_for file new_prices rows plan new_members ledger journal payments till
   kept_quoted still_prices = record {
     legal = kept.legal;
     tree = kept.tree;
@@ -104,18 +105,22 @@ module _ {P A Plan : Type 0} (weights_stand : P → Meaning → Type 0) (gains_s
     owns = λ u. are.assets u (holding_of file.net file.tree journal.history u) (kept.owns u);
     quotes_kept = quotes_kept_then;
     accounts_kept = kept.accounts_kept;
+    ledger_room = kept.ledger_room;
     safe = kept.safe;
     max_trades = kept.max_trades;
+    max_users = kept.max_users;
+    max_transfers = kept.max_transfers;
     room = kept.room;
+    till_room = kept.till_room;
   }
 
 -- or beside no new quote
 module _ {P A Plan : Type 0} (weights_stand : P → Meaning → Type 0) (gains_stand : A → Meaning → Type 0) (plan_for : Plan → List Variable → GivenTree → Type 0)
-    (file : MarketFile) (prices new_prices : P) (rows : A) (plan : Plan) (members new_members : List (Member A Plan)) (accounts : List Account) (journal : JournalOf)
-    (payments : Option (List Payment)) (kept : IsKept weights_stand gains_stand plan_for file prices rows plan members accounts journal payments) where
+    (file : MarketFile) (prices new_prices : P) (rows : A) (plan : Plan) (members new_members : List (Member A Plan)) (ledger : LedgerOf) (journal : JournalOf)
+    (payments : Option (List Payment)) (till : Option TillOf) (kept : IsKept weights_stand gains_stand plan_for file prices rows plan members ledger journal payments till) where
   pub kept_unquoted : ((m : Meaning) → weights_stand prices m → weights_stand new_prices m) → names_of new_members ≡ names_of members → quotes_of new_members ≡ quotes_of members
       → ((u : ℕ) (h : Holding) → OwnsAt gains_stand members u h → OwnsAt gains_stand new_members u h)
-      → IsKept weights_stand gains_stand plan_for file new_prices rows plan new_members accounts journal payments
+      → IsKept weights_stand gains_stand plan_for file new_prices rows plan new_members ledger journal payments till
   kept_unquoted still same_names same_quotes assets = record {
     legal = kept.legal;
     tree = kept.tree;
@@ -126,7 +131,11 @@ module _ {P A Plan : Type 0} (weights_stand : P → Meaning → Type 0) (gains_s
     owns = λ u. assets u (holding_of file.net file.tree journal.history u) (kept.owns u);
     quotes_kept = subst (AreKeptQuotes file.net file.tree journal.history) (sym same_quotes) kept.quotes_kept;
     accounts_kept = kept.accounts_kept;
+    ledger_room = kept.ledger_room;
     safe = kept.safe;
     max_trades = kept.max_trades;
+    max_users = kept.max_users;
+    max_transfers = kept.max_transfers;
     room = kept.room;
+    till_room = kept.till_room;
   }

@@ -22,7 +22,7 @@ use Rattle.mk_beliefs.proofs.Initials.{rows_grow}
 use Rattle.mk_assets.specs.declared.assets.Assets.{Assets}
 use Rattle.mk_assets.specs.Holdings.{Owns, max_bits}
 use Rattle.mk_cash.specs.declared.ledger.Account.{Account}
-use Rattle.mk_cash.specs.Accounts.{account_of}
+use Rattle.mk_cash.specs.Accounts.{account_of, LedgerOf}
 use Rattle.mk_addition.specs.Adds.{IsAddText}
 use Rattle.mk_addition.specs.declared.add.AddText.{AddText}
 use Rattle.mk_command.specs.declared.command.Command.TheVariants.{Add}
@@ -51,13 +51,15 @@ use Rattle.mk_market.specs.Trading.{Trading, IsAnswered}
 use Rattle.mk_market.specs.Suited.{SuitsLonger}
 use Rattle.mk_market.specs.inner.Adding.{IsLonger, OwnEach, AreRegrown, HasGrown}
 use Rattle.mk_market.specs.inner.Restored.{IsTakenBack}
-use Rattle.mk_market.specs.inner.Keeping.{quoted, standing_of, IsKeptQuote, IsKept}
+use Rattle.mk_market.specs.inner.Keeping.{quoted, standing_of, IsKeptQuote, IsKept, TakesAsMuch}
 use Rattle.mk_market.proofs.Accounted.{accounts_kept}
 use Rattle.mk_market.proofs.Growing.{SafeIn, quote_later}
 use Rattle.mk_market.proofs.Homes.{trades_have}
 use Rattle.mk_market.proofs.Owned.{push_cases, holding_same, few_moved}
 use Rattle.mk_market.proofs.Replies.{answer_allowed, refused_stays, unsettled}
 use Rattle.mk_market.proofs.TakenBack.{taken_back}
+use Rattle.mk_replay.specs.Tills.{TillOf}
+use Rattle.mk_replay.specs.Tills.{room_for}
 
 -- there are as many users as names
 pub as_many_users : {A Plan : Type 0} (members : List (Member A Plan)) (H : List Entry)
@@ -146,7 +148,7 @@ same_accounts market a H accounts are = record {
   one_each = are.one_each;
   each = λ u within.
       let account = are.each u within in
-      record { paid_in = account.paid_in; taken_out = account.taken_out; unpaid = account.unpaid };
+      record { paid_in = account.paid_in; taken_out = account.taken_out; paid_to = account.paid_to };
 }
 
 AccountsIn : List Entry → List Account → Market → Type 0
@@ -155,10 +157,10 @@ AccountsIn H accounts market = AreAccounts market H accounts
 module _ {P A E Plan : Type 0} (weights_stand : P → Meaning → Type 0)
     (gains_stand : A → Meaning → Type 0) (plan_for : Plan → List Variable → GivenTree → Type 0)
     (file : MarketFile) (prices : P) (rows : A) (plan : Plan)
-    (members : List (Member A Plan)) (accounts : List Account) (journal : JournalOf)
-    (payments : Option (List Payment))
-    (kept : IsKept weights_stand gains_stand plan_for file prices rows plan members accounts journal
-    payments)
+    (members : List (Member A Plan)) (ledger : LedgerOf) (journal : JournalOf)
+    (payments : Option (List Payment)) (till : Option TillOf)
+    (kept : IsKept weights_stand gains_stand plan_for file prices rows plan members ledger journal
+    payments till)
     (add : AddText) (text : IsAddText add)
     (none : first_refusal (market_of file) journal.history (Add add) ≡ None)
     (parts : Regrown P A E Plan)
@@ -182,12 +184,12 @@ module _ {P A E Plan : Type 0} (weights_stand : P → Meaning → Type 0)
   still_open : is_settled H ≡ false
   still_open = unsettled (market_of file) H (Add add) (sym none)
 
-  new_accounts : AreAccounts (market_of parts.file) (H ++ Adds a ∷ []) accounts
+  new_accounts : AreAccounts (market_of parts.file) (H ++ Adds a ∷ []) ledger.accounts
   unfolding AccountsIn
   new_accounts =
-      subst (AccountsIn (H ++ Adds a ∷ []) accounts) (sym are.longer.market)
-      (same_accounts (market_of file) a (H ++ Adds a ∷ []) accounts
-      (accounts_kept (market_of file) H still_open (Adds a) accounts refl refl (λ u. (refl, refl))
+      subst (AccountsIn (H ++ Adds a ∷ []) ledger.accounts) (sym are.longer.market)
+      (same_accounts (market_of file) a (H ++ Adds a ∷ []) ledger.accounts
+      (accounts_kept (market_of file) H still_open (Adds a) ledger.accounts refl refl (λ u. (refl, refl))
       kept.accounts_kept))
 
   new_safe : IsSafe (market_of parts.file) (H ++ Adds a ∷ [])
@@ -195,10 +197,10 @@ module _ {P A E Plan : Type 0} (weights_stand : P → Meaning → Type 0)
       subst (SafeIn (H ++ Adds a ∷ [])) (sym are.longer.market)
       (longer_is_safe file H add kept.safe text none)
 
-  pub kept_regrown : new_journal.max_trades ≡ journal.max_trades
+  pub kept_regrown : TakesAsMuch journal new_journal
       → IsKept weights_stand gains_stand plan_for parts.file parts.prices parts.rows parts.plan
-      new_members accounts new_journal payments
-  kept_regrown limit =
+      new_members ledger new_journal payments till
+  kept_regrown limits =
       let net = parts.file.net in let tree = parts.file.tree in
       let back : H ++ Adds a ∷ [] ≡ new_journal.history = sym grown in
       record {
@@ -224,22 +226,29 @@ module _ {P A E Plan : Type 0} (weights_stand : P → Meaning → Type 0)
             (subst (λ (qs : List (Option LastQuote)). slice_get qs u ≡ Some (Some quote)) quotes
             at)));
         accounts_kept =
-            subst (λ (K : List Entry). AreAccounts (market_of parts.file) K accounts) back
+            subst (λ (K : List Entry). AreAccounts (market_of parts.file) K ledger.accounts) back
             new_accounts;
+        ledger_room = kept.ledger_room ∙ sym (ap (λ (m : Market). m.max_users) are.longer.market);
         safe = subst (IsSafe (market_of parts.file)) back new_safe;
-        max_trades = limit ∙ kept.max_trades
+        max_trades = limits.trades ∙ kept.max_trades
             ∙ sym (ap (λ (m : Market). m.max_trades) are.longer.market);
+        max_users = limits.users ∙ kept.max_users
+            ∙ sym (ap (λ (m : Market). m.max_users) are.longer.market);
+        max_transfers = limits.transfers ∙ kept.max_transfers
+            ∙ sym (ap (λ (m : Market). m.max_transfers) are.longer.market);
         room = λ open_still. kept.room still_open;
+        till_room = λ open_still. kept.till_room still_open
+            ∙ ap (λ (m : Market). Some (room_for m.max_users)) (sym are.longer.market);
       }
 
   -- as its callers see it
   pub has_grown : (old new : Trading)
       → old ≡ record
-      { market = market_of file; standing = standing_of journal members; accounts = accounts }
+      { market = market_of file; standing = standing_of journal members; accounts = ledger.accounts }
       → new ≡ record {
         market = market_of parts.file;
         standing = standing_of new_journal new_members;
-        accounts = accounts;
+        accounts = ledger.accounts;
       } → HasGrown old new add
   has_grown old new before later =
       rw (before, later) (record {

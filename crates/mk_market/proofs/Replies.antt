@@ -7,7 +7,7 @@ use Rattle.mk_exact.specs.Market.{Market}
 use Rattle.mk_command.specs.declared.command.Command.{Command}
 use Rattle.mk_command.specs.declared.command.Command.TheVariants.{User, Deposit, Withdraw, Price}
 use Rattle.mk_command.specs.declared.command.Command.TheVariants.{Limits, Edit, Bounds, Spread}
-use Rattle.mk_command.specs.declared.command.Command.TheVariants.{Worst, Resolve, Settle, Bound}
+use Rattle.mk_command.specs.declared.command.Command.TheVariants.{Worst, Paid, Resolve, Settle, Bound}
 use Rattle.mk_command.specs.declared.command.Command.TheVariants.{Prices, Position, Status, Add}
 use Rattle.mk_reply.specs.declared.refusal.Refusal.{Refusal}
 use Rattle.mk_reply.specs.declared.reply.Reply.{Reply}
@@ -104,6 +104,7 @@ refused_stays market now (Edit user question to at) why h = absurd h
 refused_stays market now (Bounds user variable condition) why h = none_appended market now (Bounds user variable condition) (Refused why) refl refl
 refused_stays market now (Spread user variable condition to at) why h = absurd h
 refused_stays market now (Worst user) why h = none_appended market now (Worst user) (Refused why) refl refl
+refused_stays market now (Paid user) why h = none_appended market now (Paid user) (Refused why) refl refl
 refused_stays market now (Resolve pair) why h = none_appended market now (Resolve pair) (Refused why) refl refl
 refused_stays market now Settle why h = none_appended market now Settle (Refused why) refl refl
 refused_stays market now Bound why h = none_appended market now Bound (Refused why) refl refl
@@ -134,12 +135,16 @@ answered_refused tell old known same command other why (Err found) e refusal =
     subst (λ (w : Refusal). IsAnswered old old command (Refused w)) (sym e)
     (subst (λ (t : Trading). IsAnswered t t command (Refused why)) same (refused_answered known command why other refusal))
 
--- where no refusal meets a command the market is unsettled
+-- where no refusal meets a command the market is unsettled, but for one that asks what was paid
 pub unsettled_first : (b : Bool) (why : Refusal) (later : Option Refusal) → None ≡ or_else (fault_if b why) later → b ≡ false
 unsettled_first true why later none = absurd (cc)
 unsettled_first false why later none = refl
 
-pub unsettled : (market : Market) (H : List Entry) (command : Command) → None ≡ first_refusal market H command → is_settled H ≡ false
+abbrev pub IsOpenFor : List Entry → Command → Type 0
+IsOpenFor H (Paid u) = Unit {0}
+IsOpenFor H _ = is_settled H ≡ false
+
+pub unsettled : (market : Market) (H : List Entry) (command : Command) → None ≡ first_refusal market H command → IsOpenFor H command
 unsettled market H (User u) none = unsettled_first (is_settled H) _ _ none
 unsettled market H (Deposit u bits) none = unsettled_first (is_settled H) _ _ none
 unsettled market H (Withdraw u bits) none = unsettled_first (is_settled H) _ _ none
@@ -149,6 +154,7 @@ unsettled market H (Edit u q X seen) none = unsettled_first (is_settled H) _ _ n
 unsettled market H (Bounds u v condition) none = unsettled_first (is_settled H) _ _ none
 unsettled market H (Spread u v condition to seen) none = unsettled_first (is_settled H) _ _ none
 unsettled market H (Worst u) none = unsettled_first (is_settled H) _ _ none
+unsettled market H (Paid u) none = tt
 unsettled market H (Resolve p) none = unsettled_first (is_settled H) _ _ none
 unsettled market H Settle none = unsettled_first (is_settled H) _ _ none
 unsettled market H Bound none = unsettled_first (is_settled H) _ _ none

@@ -22,7 +22,7 @@ use Rattle.mk_file.specs.MarketOf.{market_of}
 use Rattle.mk_engine.specs.Meaning.{Meaning, with_known}
 use Rattle.mk_beliefs.specs.Meanings.{weights_of, gains_of}
 use Rattle.mk_assets.specs.Holdings.{Holding, Owns, with_known_pair}
-use Rattle.mk_cash.specs.declared.ledger.Account.{Account}
+use Rattle.mk_cash.specs.Accounts.{LedgerOf}
 use Rattle.mk_record.specs.declared.last_quote.LastQuote.{LastQuote}
 use Rattle.mk_command.specs.declared.command.Command.TheVariants.{Resolve}
 use Rattle.mk_reply.specs.declared.payments.Payment.{Payment}
@@ -38,7 +38,7 @@ use Rattle.mk_record.specs.declared.users.Member.{Member}
 use Rattle.mk_record.specs.Journals.{JournalOf}
 use Rattle.mk_record.specs.Members.{names_of, quotes_of}
 use Rattle.mk_record.specs.Refused.{CanBeResolved}
-use Rattle.mk_market.specs.inner.Keeping.{quoted, standing_of, IsKept}
+use Rattle.mk_market.specs.inner.Keeping.{quoted, standing_of, IsKept, TakesAsMuch}
 use Rattle.mk_market.specs.inner.Quoting.{OwnsAt, CanBeTold}
 use Rattle.mk_market.specs.inner.Stopped.{CanAskOfPair}
 use Rattle.mk_market.proofs.Accounted.{accounts_kept}
@@ -47,6 +47,7 @@ use Rattle.mk_market.proofs.Growing.{is_open, fit_stays_safe, kept_grown, kept_s
 use Rattle.mk_market.proofs.Owned.{holding_grows}
 use Rattle.mk_market.proofs.Replies.{stopped_by_states, unrefused, refusal_allowed, answer_allowed, unsettled}
 use Rattle.mk_market.proofs.Resolvable.{of_one}
+use Rattle.mk_replay.specs.Tills.{TillOf}
 
 -- what users hold then
 told_holding : (network : List Variable) (tree : GivenTree) (H : List Entry) (pair : Pair) (u : ℕ)
@@ -60,11 +61,11 @@ turned true b e = ap not e
 turned false b e = ap not e
 
 module _ {P A Plan : Type 0} (weights_stand : P → Meaning → Type 0) (gains_stand : A → Meaning → Type 0) (plan_for : Plan → List Variable → GivenTree → Type 0)
-    (file : MarketFile) (prices : P) (rows : A) (plan : Plan) (members : List (Member A Plan)) (accounts : List Account) (journal : JournalOf) (payments : Option (List Payment))
-    (kept : IsKept weights_stand gains_stand plan_for file prices rows plan members accounts journal payments)
+    (file : MarketFile) (prices : P) (rows : A) (plan : Plan) (members : List (Member A Plan)) (ledger : LedgerOf) (journal : JournalOf) (payments : Option (List Payment)) (till : Option TillOf)
+    (kept : IsKept weights_stand gains_stand plan_for file prices rows plan members ledger journal payments till)
     (words : PairText) (pair : Pair) (named : pair_named file.net words ≡ Some pair) (can : CanBeResolved file.net journal.history pair) where
   opened : IsOpen file.net file.tree journal.history
-  opened = is_open weights_stand gains_stand plan_for file prices rows plan members accounts journal payments kept
+  opened = is_open weights_stand gains_stand plan_for file prices rows plan members ledger journal payments till kept
 
   pub has_home : is_some (home file.tree (pair ∷ [])) ≡ true
   has_home = pair_has_home file.net file.tree pair
@@ -124,8 +125,8 @@ module _ {P A Plan : Type 0} (weights_stand : P → Meaning → Type 0) (gains_s
 
   -- the engine of prices may have been asked
   pub asked_kept : (new_prices : P) → ((m : Meaning) → weights_stand prices m → weights_stand new_prices m)
-      → IsKept weights_stand gains_stand plan_for file new_prices rows plan members accounts journal payments
-  asked_kept new_prices still = kept_still weights_stand gains_stand plan_for file prices new_prices rows plan members members accounts journal payments kept
+      → IsKept weights_stand gains_stand plan_for file new_prices rows plan members ledger journal payments till
+  asked_kept new_prices still = kept_still weights_stand gains_stand plan_for file prices new_prices rows plan members members ledger journal payments till kept
       (record { prices_still = still; names_still = refl; quotes_still = refl; owned_still = λ u assets at. (assets, at, λ (h : Holding) owns. owns) })
 
   module _ (none : None ≡ first_refusal (market_of file) journal.history (Resolve words)) where
@@ -170,26 +171,28 @@ module _ {P A Plan : Type 0} (weights_stand : P → Meaning → Type 0) (gains_s
 
     -- the market is kept
     pub resolution_kept : (new_prices : P) (new_rows : A) (new_members : List (Member A Plan)) (new_journal : JournalOf)
-        → new_journal.history ≡ journal.history ++ Resolves pair ∷ [] → new_journal.max_trades ≡ journal.max_trades
+        → new_journal.history ≡ journal.history ++ Resolves pair ∷ [] → TakesAsMuch journal new_journal
         → ((m : Meaning) → weights_stand prices m → weights_stand new_prices (with_known pair m))
         → ((m : Meaning) → gains_stand rows m → gains_stand new_rows (with_known pair m))
         → ((u : ℕ) (h : Holding) → OwnsAt gains_stand members u h → OwnsAt gains_stand new_members u (with_known_pair pair h))
         → names_of new_members ≡ names_of members → quotes_of new_members ≡ quotes_of members
-        → IsKept weights_stand gains_stand plan_for file new_prices new_rows plan new_members accounts new_journal payments
+        → IsKept weights_stand gains_stand plan_for file new_prices new_rows plan new_members ledger new_journal payments till
     unfolding reply
-    resolution_kept new_prices new_rows new_members new_journal history limit known known_rows told names same_quotes =
+    resolution_kept new_prices new_rows new_members new_journal history limits known known_rows told names same_quotes =
         let H = journal.history in
-        kept_grown weights_stand gains_stand plan_for file prices new_prices rows new_rows plan members new_members accounts accounts journal new_journal payments payments
+        kept_grown weights_stand gains_stand plan_for file prices new_prices rows new_rows plan members new_members ledger ledger journal new_journal payments payments till till
         (Resolves pair) (Resolve words) reply tt tt tt kept fit
         (ap₂ (λ (H : List Entry) (qs : List (Option LastQuote)). record { history = H; quotes = map (option_map quoted) qs }) (history ∙ sym longer) same_quotes)
         (record {
           history = history;
-          limit = limit;
+          limits = limits;
           prices_grown = known;
           rows_grown = known_rows;
           names = names ∙ kept.named ∙ sym (not_found H (Resolves pair) join_in refl);
           owned = λ u assets at. subst (Owns gains_stand assets) (sym (told_holding file.net file.tree H pair u)) (told u (holding_of file.net file.tree H u) (kept.owns u) assets at);
           none_quoted = λ u quote at. subst (λ (qs : List (Option LastQuote)). slice_get qs u ≡ Some (Some quote)) same_quotes at;
-          accounts = accounts_kept (market_of file) H (unsettled (market_of file) H (Resolve words) none) (Resolves pair) accounts refl refl (λ u. (refl, refl)) kept.accounts_kept;
+          accounts = accounts_kept (market_of file) H (unsettled (market_of file) H (Resolve words) none) (Resolves pair) ledger.accounts refl refl (λ u. (refl, refl)) kept.accounts_kept;
+          ledger_room = kept.ledger_room;
           room = λ unsettled. kept.room (sym (not_there H (Resolves pair) is_settlement refl) ∙ unsettled);
+          till_room = λ unsettled. kept.till_room (sym (not_there H (Resolves pair) is_settlement refl) ∙ unsettled);
         })

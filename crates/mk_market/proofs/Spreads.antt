@@ -31,7 +31,7 @@ use Rattle.mk_tree.specs.Given.{GivenTree}
 use Rattle.mk_file.specs.declared.market_file.MarketFile.{MarketFile}
 use Rattle.mk_file.specs.MarketOf.{market_of}
 use Rattle.mk_engine.specs.Meaning.{Meaning}
-use Rattle.mk_cash.specs.declared.ledger.Account.{Account}
+use Rattle.mk_cash.specs.Accounts.{LedgerOf}
 use Rattle.mk_command.specs.declared.command.Command.TheVariants.{Bounds, Spread}
 use Rattle.mk_quote.specs.declared.side.SideBounds.{SideBounds}
 use Rattle.mk_quote.specs.declared.spread_quote.SpreadQuote.{SpreadQuote}
@@ -67,6 +67,7 @@ use Rattle.mk_market.proofs.Replies.{answer_allowed, refusal_allowed, none_appen
 use Rattle.mk_reply.specs.Replies.{IsRatio}
 use Rattle.mk_restore.specs.Restoring.{IsFit}
 use Rattle.mk_restore.proofs.Taken.{allowed_fits}
+use Rattle.mk_replay.specs.Tills.{TillOf}
 
 -- ---- a refusal
 
@@ -234,8 +235,8 @@ module _ {A Plan : Type 0} (file : MarketFile) (journal : JournalOf) (members : 
 -- ---- the market
 
 module _ {P A Plan : Type 0} (weights_stand : P → Meaning → Type 0) (gains_stand : A → Meaning → Type 0) (plan_for : Plan → List Variable → GivenTree → Type 0)
-    (file : MarketFile) (prices : P) (rows : A) (plan : Plan) (members new_members : List (Member A Plan)) (accounts : List Account) (journal : JournalOf)
-    (payments : Option (List Payment)) (kept : IsKept weights_stand gains_stand plan_for file prices rows plan members accounts journal payments)
+    (file : MarketFile) (prices : P) (rows : A) (plan : Plan) (members new_members : List (Member A Plan)) (ledger : LedgerOf) (journal : JournalOf)
+    (payments : Option (List Payment)) (till : Option TillOf) (kept : IsKept weights_stand gains_stand plan_for file prices rows plan members ledger journal payments till)
     (name : List ℕ) (user : ℕ) (is_user : IsUser journal.history name user) (v : List ℕ) (condition : ArrayVec PairText) (spread : SpreadAsked)
     (is_question : IsSpreadQuestionFor (market_of file) file.tree journal.history v condition.items spread) (quote : SpreadQuote)
     (is : IsSpreadQuoteOf file.net file.tree journal.history user spread quote)
@@ -251,7 +252,7 @@ module _ {P A Plan : Type 0} (weights_stand : P → Meaning → Type 0) (gains_s
       is_question.named))
 
   open_for : IsOpen file.net file.tree journal.history
-  open_for = is_open weights_stand gains_stand plan_for file prices rows plan members accounts journal payments kept
+  open_for = is_open weights_stand gains_stand plan_for file prices rows plan members ledger journal payments till kept
 
   right_for : (intervals : Intervals) → AreRightForEach (sides_of quote) intervals → AreRightBoundsOf file.net journal.history user spread intervals
   right_for intervals right = right_bounds file.net file.tree journal.history user spread quote is open_for intervals right
@@ -259,8 +260,8 @@ module _ {P A Plan : Type 0} (weights_stand : P → Meaning → Type 0) (gains_s
   -- the bounds of a spread
   pub bounds_answered : (box : Option (ArrayVec (ℕ × ℕ))) (at : ℕ) → None ≡ first_refusal (market_of file) journal.history (Bounds name v condition)
       → given_in box ≡ intervals_of quote → AreRightForEach (sides_of quote) (given_in box) → at ≡ revision journal.history
-      → IsAnswered (trading file accounts journal members)
-      (trading file accounts journal new_members) (Bounds name v condition) (Bounded box at)
+      → IsAnswered (trading file ledger journal members)
+      (trading file ledger journal new_members) (Bounds name v condition) (Bounded box at)
   bounds_answered box at none given right now = record {
     market = refl;
     allowed = λ sound. answer_allowed (market_of file) (standing_of journal members) (Bounds name v condition) (Bounded box at) none
@@ -278,8 +279,8 @@ module _ {P A Plan : Type 0} (weights_stand : P → Meaning → Type 0) (gains_s
   pub outside_answered : (to : ArrayVec ℕ) (seen : Option ℕ) (box : Option (ArrayVec (ℕ × ℕ))) → None ≡ first_refusal (market_of file) journal.history (Spread name v condition to seen)
       → IsOutside quote to.items box
       → ((held : SpreadQuote) → slice_get (quotes_of members) user ≡ Some (Some (LastBounds held)) → IsSpreadFor held spread (revision journal.history) → quote ≡ held)
-      → IsAnswered (trading file accounts journal members)
-      (trading file accounts journal new_members) (Spread name v condition to seen)
+      → IsAnswered (trading file ledger journal members)
+      (trading file ledger journal new_members) (Spread name v condition to seen)
       (Refused (Outside box))
   outside_answered to seen box none out last =
       let reply = Refused (Outside box) in
@@ -350,11 +351,11 @@ module _ (file : MarketFile) (journal : JournalOf) (open_for : IsOpen file.net f
         ∙ ap (λ (n : ℕ). journal.history ++ option_to_list (option_map (λ (s : SpreadAsked). Trade n (spread_ratio s factors.items)) (spread_named file.net v condition.items))) is_user.number)
         same_quotes
 
-    pub spread_trade_answered : (accounts : List Account)
-        → IsAnswered (trading file accounts journal members)
-        (trading file accounts new_journal new_members) (Spread name v condition to seen)
+    pub spread_trade_answered : (ledger : LedgerOf)
+        → IsAnswered (trading file ledger journal members)
+        (trading file ledger new_journal new_members) (Spread name v condition to seen)
         (Spreaded factors at)
-    spread_trade_answered accounts = record {
+    spread_trade_answered ledger = record {
       market = nothing_added (market_of file) (standing_of journal members)
           (Spread name v condition to seen) (Spreaded factors at) tt;
       allowed = λ sound. spread_trade_allowed;

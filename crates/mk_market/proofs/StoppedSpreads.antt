@@ -20,7 +20,7 @@ use Rattle.mk_file.specs.MarketOf.{market_of}
 use Rattle.mk_engine.specs.Meaning.{Meaning}
 use Rattle.mk_beliefs.specs.Meanings.{weights_of}
 use Rattle.mk_assets.specs.Holdings.{Holding}
-use Rattle.mk_cash.specs.declared.ledger.Account.{Account}
+use Rattle.mk_cash.specs.Accounts.{LedgerOf}
 use Rattle.mk_command.specs.declared.command.Command.TheVariants.{Bounds, Spread}
 use Rattle.mk_quote.specs.declared.spread_quote.SpreadQuote.{SpreadQuote}
 use Rattle.mk_quote.specs.Spreads.{sides_of, intervals_of}
@@ -53,6 +53,7 @@ use Rattle.mk_market.proofs.Replies.{refused_answered, stopped_by_states, unrefu
 use Rattle.mk_market.proofs.Spreads.{refused_answered as spread_refused, kept_quote, two_left}
 use Rattle.mk_market.proofs.Spreads.{no_side_is, outside_answered}
 use Rattle.mk_market.proofs.TogetherSpreads.{together_left, sure_is, not_sure, impossible_by, missing_by, inside_is_placed}
+use Rattle.mk_replay.specs.Tills.{TillOf}
 
 -- ---- the first refusal by what can come
 
@@ -127,18 +128,18 @@ module _ (network : List Variable) (tree : GivenTree) (H : List Entry) (u : ℕ)
 -- ---- the market
 
 module _ {P A Plan : Type 0} (weights_stand : P → Meaning → Type 0) (gains_stand : A → Meaning → Type 0) (plan_for : Plan → List Variable → GivenTree → Type 0)
-    (file : MarketFile) (prices : P) (rows : A) (plan : Plan) (members : List (Member A Plan)) (accounts : List Account) (journal : JournalOf)
-    (payments : Option (List Payment)) (kept : IsKept weights_stand gains_stand plan_for file prices rows plan members accounts journal payments)
+    (file : MarketFile) (prices : P) (rows : A) (plan : Plan) (members : List (Member A Plan)) (ledger : LedgerOf) (journal : JournalOf)
+    (payments : Option (List Payment)) (till : Option TillOf) (kept : IsKept weights_stand gains_stand plan_for file prices rows plan members ledger journal payments till)
     (new_prices : P) (new_members : List (Member A Plan)) where
   -- users who were quoted the same are the same to its callers
   same_trading : quotes_of new_members ≡ quotes_of members
-      → trading file accounts journal members ≡ trading file accounts journal new_members
+      → trading file ledger journal members ≡ trading file ledger journal new_members
   same_trading same =
       ap (λ (qs : List (Option LastQuote)). record {
         market = market_of file;
         standing = record
             { history = journal.history; quotes = map (option_map quoted) qs };
-        accounts = accounts;
+        accounts = ledger.accounts;
       })
       (sym same)
 
@@ -148,7 +149,7 @@ module _ {P A Plan : Type 0} (weights_stand : P → Meaning → Type 0) (gains_s
     pub names_beside : names_of new_members ≡ names_of members
     pub assets_beside : (u : ℕ) (h : Holding) → OwnsAt gains_stand members u h → OwnsAt gains_stand new_members u h
 
-  pub kept_beside : AreBeside → quotes_of new_members ≡ quotes_of members → IsKept weights_stand gains_stand plan_for file new_prices rows plan new_members accounts journal payments
+  pub kept_beside : AreBeside → quotes_of new_members ≡ quotes_of members → IsKept weights_stand gains_stand plan_for file new_prices rows plan new_members ledger journal payments till
   kept_beside are same = record {
     legal = kept.legal;
     tree = kept.tree;
@@ -159,15 +160,19 @@ module _ {P A Plan : Type 0} (weights_stand : P → Meaning → Type 0) (gains_s
     owns = λ u. are.assets_beside u (holding_of file.net file.tree journal.history u) (kept.owns u);
     quotes_kept = subst (AreKeptQuotes file.net file.tree journal.history) (sym same) kept.quotes_kept;
     accounts_kept = kept.accounts_kept;
+    ledger_room = kept.ledger_room;
     safe = kept.safe;
     max_trades = kept.max_trades;
+    max_users = kept.max_users;
+    max_transfers = kept.max_transfers;
     room = kept.room;
+    till_room = kept.till_room;
   }
 
   module _ (name : List ℕ) (user : ℕ) (is_user : IsUser journal.history name user) (v : List ℕ) (condition : ArrayVec PairText) (spread : SpreadAsked)
       (is_question : IsSpreadQuestionFor (market_of file) file.tree journal.history v condition.items spread) where
     open_for : IsOpen file.net file.tree journal.history
-    open_for = is_open weights_stand gains_stand plan_for file prices rows plan members accounts journal payments kept
+    open_for = is_open weights_stand gains_stand plan_for file prices rows plan members ledger journal payments till kept
 
     -- the engine can find the words of what stops it
     pub can_refuse : (request : SpreadRequest) → spread_in request.question ≡ spread
@@ -198,12 +203,12 @@ module _ {P A Plan : Type 0} (weights_stand : P → Meaning → Type 0) (gains_s
     pub decided_answered : (why : SpreadDecided) (found : Refusal) → None ≡ first_of (refusals_by_record (market_of file) journal.history (Bounds name v condition))
         → IsSpreadDecidedBy file.net journal.history spread why → IsRefusedFor file.net journal.history v condition.items spread (stopped.Decided why) found
         → quotes_of new_members ≡ quotes_of members
-        → IsAnswered (trading file accounts journal members)
-        (trading file accounts journal new_members) (Bounds name v condition) (Refused found)
+        → IsAnswered (trading file ledger journal members)
+        (trading file ledger journal new_members) (Bounds name v condition) (Refused found)
     decided_answered why found none by is same =
-        subst (λ (t : Trading). IsAnswered (trading file accounts journal members) t
+        subst (λ (t : Trading). IsAnswered (trading file ledger journal members) t
         (Bounds name v condition) (Refused found)) (same_trading same)
-        (refused_answered (trading file accounts journal members)
+        (refused_answered (trading file ledger journal members)
         (Bounds name v condition) found tt
         (stopped_by_states (market_of file) journal.history (Bounds name v condition) found none
         (decided_first file.net file.tree journal.history v condition.items spread is_question.named why found [] by is)))
@@ -234,17 +239,17 @@ module _ {P A Plan : Type 0} (weights_stand : P → Meaning → Type 0) (gains_s
           (inside_first file.net file.tree journal.history v condition.items spread is_question.named open_for user quote its to.items inside)
 
       abbrev IsReply : Refusal → Type 0
-      IsReply found = IsAnswered (trading file accounts journal members)
-          (trading file accounts journal new_members) (Spread name v condition to seen)
+      IsReply found = IsAnswered (trading file ledger journal members)
+          (trading file ledger journal new_members) (Spread name v condition to seen)
           (Refused found)
 
       refused_same : (found : Refusal) → quotes_of new_members ≡ quotes_of members
           → first_of (impossible_together file.net journal.history condition.items ∷ sure_value file.net journal.history v condition.items
           ∷ impossible_share file.net journal.history v condition.items to.items ∷ missing_share file.net journal.history v condition.items to.items ∷ []) ≡ Some found → IsReply found
       refused_same found same first =
-          subst (λ (t : Trading). IsAnswered (trading file accounts journal members) t
+          subst (λ (t : Trading). IsAnswered (trading file ledger journal members) t
           (Spread name v condition to seen) (Refused found)) (same_trading same)
-          (spread_refused (trading file accounts journal members) name v condition to seen found
+          (spread_refused (trading file ledger journal members) name v condition to seen found
           (stopped_by_states (market_of file) journal.history (Spread name v condition to seen) found none first))
 
       abbrev IsTurned : Stopped → Type 0
@@ -265,7 +270,7 @@ module _ {P A Plan : Type 0} (weights_stand : P → Meaning → Type 0) (gains_s
           ∙ ap (λ (w : Refusal). Some w) (sym is))
       stopped_answered (stopped.Outside box) found down is =
           subst IsReply (sym is)
-          (outside_answered weights_stand gains_stand plan_for file prices rows plan members new_members accounts journal payments kept name user is_user v condition spread is_question
+          (outside_answered weights_stand gains_stand plan_for file prices rows plan members new_members ledger journal payments till kept name user is_user v condition spread is_question
           down.quote down.judge.its down.quotes_left to seen box
           (unrefused (market_of file) journal.history (Spread name v condition to seen) none
           (none_first file.net file.tree journal.history v condition.items spread is_question.named open_for user down.quote down.judge.its to.items
@@ -274,11 +279,11 @@ module _ {P A Plan : Type 0} (weights_stand : P → Meaning → Type 0) (gains_s
 
       -- and leaves the market kept
       pub stopped_kept : (why : Stopped) (found : Refusal) → IsTurned why → IsRefusedFor file.net journal.history v condition.items spread why found → AreBeside
-          → IsKept weights_stand gains_stand plan_for file new_prices rows plan new_members accounts journal payments
+          → IsKept weights_stand gains_stand plan_for file new_prices rows plan new_members ledger journal payments till
       stopped_kept (stopped.Decided why) found down is are = kept_beside are down.same_quotes
       stopped_kept (stopped.ImpossibleShare value) found down is are = kept_beside are down.quotes_left
       stopped_kept stopped.MissingShare found down is are = kept_beside are down.quotes_left
       stopped_kept (stopped.Outside box) found down is are =
-          kept_quoted weights_stand gains_stand plan_for file prices new_prices rows plan members new_members accounts journal payments kept user (LastBounds down.quote)
+          kept_quoted weights_stand gains_stand plan_for file prices new_prices rows plan members new_members ledger journal payments till kept user (LastBounds down.quote)
           (kept_quote file.net file.tree journal.history user spread down.quote down.judge.its)
           (record { names = are.names_beside; quotes = down.quotes_left; assets = are.assets_beside }) are.prices_beside

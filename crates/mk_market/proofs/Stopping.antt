@@ -17,7 +17,7 @@ use Rattle.mk_tree.specs.Given.{GivenTree, home}
 use Rattle.mk_tree.proofs.Held.{home_is_held}
 use Rattle.mk_file.specs.declared.market_file.MarketFile.{MarketFile}
 use Rattle.mk_file.specs.MarketOf.{market_of}
-use Rattle.mk_cash.specs.declared.ledger.Account.{Account}
+use Rattle.mk_cash.specs.Accounts.{LedgerOf}
 use Rattle.mk_engine.specs.Meaning.{Meaning}
 use Rattle.mk_beliefs.specs.Meanings.{weights_of}
 use Rattle.mk_command.specs.declared.command.Command.TheVariants.{Price, Limits, Edit}
@@ -128,7 +128,7 @@ edit_unrefused file H name q X seen asked named left none =
     unrefused (market_of file) H (Edit name q X seen) none (none_stops file.net H q asked (record { named = named; known = edit_known file H name q X seen none }) left)
 
 -- the market answers with the refusal
-module _ {A Plan : Type 0} (file : MarketFile) (accounts : List Account) (journal : JournalOf)
+module _ {A Plan : Type 0} (file : MarketFile) (ledger : LedgerOf) (journal : JournalOf)
     (members new_members : List (Member A Plan))
     (same_quotes : quotes_of new_members ≡ quotes_of members) where
   same_standing : standing_of journal new_members ≡ standing_of journal members
@@ -136,8 +136,8 @@ module _ {A Plan : Type 0} (file : MarketFile) (accounts : List Account) (journa
 
   pub price_stopped : (q : QuestionText) (why : Refusal) → None ≡ first_of (refusals_by_record (market_of file) journal.history (Price q))
       → impossible_together file.net journal.history q.condition.items ≡ Some why
-      → IsAnswered (trading file accounts journal members)
-      (trading file accounts journal new_members) (Price q) (Refused why)
+      → IsAnswered (trading file ledger journal members)
+      (trading file ledger journal new_members) (Price q) (Refused why)
   price_stopped q why none e = record {
     market = refl;
     allowed = λ sound. refusal_allowed (market_of file) (standing_of journal members) (Price q) why
@@ -148,8 +148,8 @@ module _ {A Plan : Type 0} (file : MarketFile) (accounts : List Account) (journa
 
   pub limits_stopped : (name : List ℕ) (q : QuestionText) (why : Refusal) → None ≡ first_of (refusals_by_record (market_of file) journal.history (Limits name q))
       → first_of (refusals_by_states (market_of file) journal.history (Limits name q)) ≡ Some why
-      → IsAnswered (trading file accounts journal members)
-      (trading file accounts journal new_members) (Limits name q) (Refused why)
+      → IsAnswered (trading file ledger journal members)
+      (trading file ledger journal new_members) (Limits name q) (Refused why)
   limits_stopped name q why none e = record {
     market = refl;
     allowed = λ sound. refusal_allowed (market_of file) (standing_of journal members) (Limits name q) why (stopped_by_states (market_of file) journal.history (Limits name q) why none e);
@@ -159,8 +159,8 @@ module _ {A Plan : Type 0} (file : MarketFile) (accounts : List Account) (journa
 
   pub edit_stopped : (name : List ℕ) (q : QuestionText) (X : ℕ) (seen : Option ℕ) (why : Refusal) → None ≡ first_of (refusals_by_record (market_of file) journal.history (Edit name q X seen))
       → first_of (refusals_by_states (market_of file) journal.history (Edit name q X seen)) ≡ Some why
-      → IsAnswered (trading file accounts journal members)
-      (trading file accounts journal new_members) (Edit name q X seen) (Refused why)
+      → IsAnswered (trading file ledger journal members)
+      (trading file ledger journal new_members) (Edit name q X seen) (Refused why)
   edit_stopped name q X seen why none e =
       let first = stopped_by_states (market_of file) journal.history (Edit name q X seen) why none e in
       record {

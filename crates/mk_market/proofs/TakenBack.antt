@@ -15,7 +15,7 @@ use Rattle.mk_market.specs.inner.Restored.{IsLeft, IsTakenBack, IsTried}
 
 -- a reply that does not agree, and a refusal that applies again
 pub left_by_reply : (now : Trading) (command : Command) (reply : Reply)
-    → (Agrees now.standing.history command reply → ⊥) → IsLeft now now command reply
+    → (Agrees now.market now.standing.history command reply → ⊥) → IsLeft now now command reply
 left_by_reply now command reply other = record { same = refl; unfit = λ fit. other fit.agrees }
 
 pub left_by_refusal : (now : Trading) (command : Command) (reply : Reply) (why : Refusal)
@@ -38,7 +38,7 @@ tried_unfit old new command reply (Err Memory) told left = absurd (cc)
 pub taken_back : (old new : Trading) (command : Command) (reply given : Reply) → reply ≡ given
     → new.market ≡ market_after old.market old.standing (OfCommand command) given
     → None ≡ first_of (refusals_again old.market old.standing.history command)
-    → Agrees old.standing.history command given
+    → Agrees old.market old.standing.history command given
     → new.standing ≡ after old.market old.standing (OfCommand command) given
     → ArePaidBy given old.accounts new.accounts → IsTakenBack old new command reply
 taken_back old new command reply given told market none agrees next paid =

@@ -11,7 +11,7 @@ use Rattle.mk_file.specs.declared.market_file.MarketFile.{MarketFile}
 use Rattle.mk_file.specs.MarketOf.{market_of}
 use Rattle.mk_engine.specs.Meaning.{Meaning, RatioOf, with_factor}
 use Rattle.mk_assets.specs.Holdings.{Holding}
-use Rattle.mk_cash.specs.declared.ledger.Account.{Account}
+use Rattle.mk_cash.specs.Accounts.{LedgerOf}
 use Rattle.mk_command.specs.declared.command.Command.{Command}
 use Rattle.mk_reply.specs.declared.payments.Payment.{Payment}
 use Rattle.mk_reply.specs.declared.reply.Reply.{Reply}
@@ -25,22 +25,23 @@ use Rattle.mk_record.specs.declared.last_quote.LastQuote.{LastQuote}
 use Rattle.mk_record.specs.declared.users.Member.{Member}
 use Rattle.mk_record.specs.Journals.{JournalOf}
 use Rattle.mk_record.specs.Members.{names_of, quotes_of}
-use Rattle.mk_market.specs.inner.Keeping.{standing_of, IsKept}
+use Rattle.mk_market.specs.inner.Keeping.{standing_of, IsKept, TakesAsMuch}
 use Rattle.mk_market.specs.inner.Quoting.{OwnsAt, AreInUse, CanBeMade}
 use Rattle.mk_market.proofs.Accounted.{accounts_kept}
 use Rattle.mk_record.proofs.Appends.{not_there, not_found}
 use Rattle.mk_market.proofs.Growing.{is_open, kept_grown}
 use Rattle.mk_market.proofs.Lent.{in_range}
+use Rattle.mk_replay.specs.Tills.{TillOf}
 
 module _ {P A Plan : Type 0} (weights_stand : P → Meaning → Type 0) (gains_stand : A → Meaning → Type 0) (plan_for : Plan → List Variable → GivenTree → Type 0)
-    (file : MarketFile) (prices : P) (rows : A) (plan : Plan) (members : List (Member A Plan)) (accounts : List Account) (journal : JournalOf)
-    (payments : Option (List Payment)) (kept : IsKept weights_stand gains_stand plan_for file prices rows plan members accounts journal payments) where
+    (file : MarketFile) (prices : P) (rows : A) (plan : Plan) (members : List (Member A Plan)) (ledger : LedgerOf) (journal : JournalOf)
+    (payments : Option (List Payment)) (till : Option TillOf) (kept : IsKept weights_stand gains_stand plan_for file prices rows plan members ledger journal payments till) where
   -- a market that is kept is in use, and so it is by what stands for all that its parts stood for
   pub in_use : (new_prices : P) (new_members : List (Member A Plan)) → ((m : Meaning) → weights_stand prices m → weights_stand new_prices m)
       → ((u : ℕ) (h : Holding) → OwnsAt gains_stand members u h → OwnsAt gains_stand new_members u h)
       → AreInUse weights_stand gains_stand file.net file.tree journal.history new_prices new_members
   in_use new_prices new_members still_prices still_assets = record {
-    is_open = is_open weights_stand gains_stand plan_for file prices rows plan members accounts journal payments kept;
+    is_open = is_open weights_stand gains_stand plan_for file prices rows plan members ledger journal payments till kept;
     weights = still_prices _ kept.prices_stand;
     owns = λ u. still_assets u _ (kept.owns u);
   }
@@ -71,23 +72,25 @@ module _ {P A Plan : Type 0} (weights_stand : P → Meaning → Type 0) (gains_s
         → IsFit (market_of file) journal.history command reply
         → standing_of new_journal new_members ≡ after (market_of file) (standing_of journal members) (OfCommand command) reply
         → new_journal.history ≡ journal.history ++ Trade user ratio ∷ [] → quotes_of new_members ≡ quotes_of members
-        → (new_prices : P) → new_journal.max_trades ≡ journal.max_trades
+        → (new_prices : P) → TakesAsMuch journal new_journal
         → ((m : Meaning) → weights_stand prices m → weights_stand new_prices (with_factor (RatioOf ratio) m))
         → names_of new_members ≡ names_of members
         → ((u : ℕ) → OwnsAt gains_stand new_members u (holding_of file.net file.tree (journal.history ++ Trade user ratio ∷ []) u))
-        → IsKept weights_stand gains_stand plan_for file new_prices rows plan new_members accounts new_journal payments
-    trade_kept command reply joins other units unsettled new_members new_journal fit next history same_quotes new_prices limit grown names owned =
+        → IsKept weights_stand gains_stand plan_for file new_prices rows plan new_members ledger new_journal payments till
+    trade_kept command reply joins other units unsettled new_members new_journal fit next history same_quotes new_prices limits grown names owned =
         let H = journal.history in
-        kept_grown weights_stand gains_stand plan_for file prices new_prices rows rows plan members new_members accounts accounts journal new_journal payments payments
+        kept_grown weights_stand gains_stand plan_for file prices new_prices rows rows plan members new_members ledger ledger journal new_journal payments payments till till
         (Trade user ratio) command reply joins other units kept fit next
         (record {
           history = history;
-          limit = limit;
+          limits = limits;
           prices_grown = grown;
           rows_grown = λ m stands. stands;
           names = names ∙ kept.named ∙ sym (not_found H (Trade user ratio) join_in refl);
           owned = owned;
           none_quoted = λ u quote at. subst (λ (qs : List (Option LastQuote)). slice_get qs u ≡ Some (Some quote)) same_quotes at;
-          accounts = accounts_kept (market_of file) H unsettled (Trade user ratio) accounts refl refl (λ u. (refl, refl)) kept.accounts_kept;
+          accounts = accounts_kept (market_of file) H unsettled (Trade user ratio) ledger.accounts refl refl (λ u. (refl, refl)) kept.accounts_kept;
+          ledger_room = kept.ledger_room;
           room = λ still. kept.room (sym (not_there H (Trade user ratio) is_settlement refl) ∙ still);
+          till_room = λ still. kept.till_room (sym (not_there H (Trade user ratio) is_settlement refl) ∙ still);
         })

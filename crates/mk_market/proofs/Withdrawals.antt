@@ -24,8 +24,7 @@ use Rattle.mk_answers.specs.Open.{IsOpen, IsFactorFor, holding_of}
 use Rattle.mk_engine.specs.Meaning.{Meaning}
 use Rattle.mk_assets.specs.declared.assets.Assets.{Assets}
 use Rattle.mk_assets.specs.Holdings.{Holding, Owns, CanWithdraw, max_bits, with_withdrawal}
-use Rattle.mk_cash.specs.declared.ledger.Account.{Account}
-use Rattle.mk_cash.specs.Accounts.{account_of}
+use Rattle.mk_cash.specs.Accounts.{account_of, LedgerOf}
 use Rattle.mk_record.specs.declared.last_quote.LastQuote.{LastQuote}
 use Rattle.mk_command.specs.declared.command.Command.TheVariants.{Withdraw}
 use Rattle.mk_reply.specs.declared.payments.Payment.{Payment}
@@ -39,34 +38,37 @@ use Rattle.mk_record.specs.Journals.{JournalOf}
 use Rattle.mk_record.specs.Members.{assets_of, quotes_of, with_assets}
 use Rattle.mk_market.specs.Points.{IsAccount, ArePaidBy}
 use Rattle.mk_record.specs.Refused.{IsUser, HasRoomForTransfer}
-use Rattle.mk_market.specs.inner.Keeping.{quoted, standing_of, IsKept}
+use Rattle.mk_market.specs.inner.Keeping.{quoted, standing_of, IsKept, TakesAsMuch}
 use Rattle.mk_record.proofs.Appends.{not_there, not_found}
 use Rattle.mk_market.proofs.Growing.{is_open, kept_grown}
 use Rattle.mk_market.proofs.Owned.{names_same, quotes_same, owned_one, withdrawal_holding, withdrawal_others, few_moved}
 use Rattle.mk_market.proofs.Accounted.{paid_set, accounts_withdrawn}
 use Rattle.mk_market.proofs.Replies.{answer_allowed, none_appended, unsettled}
 use Rattle.mk_market.proofs.Weaker.{most_when}
+use Rattle.mk_replay.specs.Tills.{TillOf}
 
 module _ {P A Plan : Type 0} (weights_stand : P → Meaning → Type 0) (gains_stand : A → Meaning → Type 0) (plan_for : Plan → List Variable → GivenTree → Type 0)
-    (file : MarketFile) (prices : P) (rows : A) (plan : Plan) (members : List (Member A Plan)) (accounts : List Account) (journal : JournalOf) (payments : Option (List Payment))
-    (kept : IsKept weights_stand gains_stand plan_for file prices rows plan members accounts journal payments)
-    (name : List ℕ) (user bits : ℕ) (is_user : IsUser journal.history name user) (room : HasRoomForTransfer journal.history bits) where
+    (file : MarketFile) (prices : P) (rows : A) (plan : Plan) (members : List (Member A Plan)) (ledger : LedgerOf) (journal : JournalOf) (payments : Option (List Payment)) (till : Option TillOf)
+    (kept : IsKept weights_stand gains_stand plan_for file prices rows plan members ledger journal payments till)
+    (name : List ℕ) (user bits : ℕ) (is_user : IsUser journal.history name user) (room : HasRoomForTransfer journal bits) where
   bits_fit : withdrawn journal.history user + bits ≤ max_bits
-  bits_fit = let most = few_moved (length (users journal.history)) user journal.history kept.safe.bounded.transfers_fit in omega (arith, most.1, room.most, room.few)
+  bits_fit = let most = few_moved (length (users journal.history)) user journal.history kept.safe.bounded.transfers_fit in omega (arith, most.1, room.most, room.few, kept.max_transfers, file.transfers_most)
 
-  pub points_fit : (account_of accounts user).withdrawn + file.points_per_bit * bits < number_limit
+  pub points_fit : (account_of ledger.accounts user).withdrawn + file.points_per_bit * bits < number_limit
   points_fit =
-      let account : IsAccount (market_of file) journal.history user (account_of accounts user) = kept.accounts_kept.each user (omega (arith, is_user.within, kept.accounts_kept.one_each)) in
-      let most : file.points_per_bit * (withdrawn journal.history user + bits) ≤ 1000000 * 65536000 = mul-le-mul file.points_most bits_fit in
+      let account : IsAccount (market_of file) journal.history user (account_of ledger.accounts user) = kept.accounts_kept.each user (omega (arith, is_user.within, kept.accounts_kept.one_each)) in
+      let most : file.points_per_bit * (withdrawn journal.history user + bits) ≤ 1000000 * 1000000000 = mul-le-mul file.points_most bits_fit in
       omega (arith, account.taken_out, most)
 
-  pub withdrawal_paid : (new_accounts : List Account)
-      → new_accounts ≡ slice_set accounts user (let account = account_of accounts user in record
-      account { withdrawn = account.withdrawn + file.points_per_bit * bits })
-      → (at : ℕ) → ArePaidBy (Withdrawn name bits at) accounts new_accounts
-  withdrawal_paid new_accounts entered at u =
-      ap (λ (xs : List Account). (account_of xs u).paid) entered
-      ∙ paid_set accounts user (let account = account_of accounts user in record account
+  pub withdrawal_paid : (new_ledger : LedgerOf)
+      → new_ledger ≡ record ledger {
+        accounts = slice_set ledger.accounts user (let account = account_of ledger.accounts user in record
+            account { withdrawn = account.withdrawn + file.points_per_bit * bits });
+      }
+      → (at : ℕ) → ArePaidBy (Withdrawn name bits at) ledger.accounts new_ledger.accounts
+  withdrawal_paid new_ledger entered at u =
+      ap (λ (l : LedgerOf). (account_of l.accounts u).paid) entered
+      ∙ paid_set ledger.accounts user (let account = account_of ledger.accounts user in record account
       { withdrawn = account.withdrawn + file.points_per_bit * bits })
       (omega (arith, is_user.within, kept.accounts_kept.one_each)) refl u
 
@@ -87,7 +89,7 @@ module _ {P A Plan : Type 0} (weights_stand : P → Meaning → Type 0) (gains_s
       worth_for : IsFactorFor factor (IsSmall file.net journal.history) worth
       unfolding worth
       worth_for = found file.net file.tree journal.history user has_least.least (kept.owns user before there)
-          (is_open weights_stand gains_stand plan_for file prices rows plan members accounts journal payments kept) has_least.is_least
+          (is_open weights_stand gains_stand plan_for file prices rows plan members ledger journal payments till kept) has_least.is_least
 
       answered : (reply : Reply)
           → IsWithdrawal (IsSmall file.net journal.history) (HoldsNoTrade journal.history user)
@@ -118,7 +120,7 @@ module _ {P A Plan : Type 0} (weights_stand : P → Meaning → Type 0) (gains_s
           let small = IsSmall file.net journal.history in let idle = HoldsNoTrade journal.history
           user in
           let opened = is_open weights_stand gains_stand plan_for file prices rows plan members
-          accounts journal payments kept in
+          ledger journal payments till kept in
           let short : IsShort small idle worth bits (Refused (Short most))
           = record {
             most = most;
@@ -155,7 +157,7 @@ module _ {P A Plan : Type 0} (weights_stand : P → Meaning → Type 0) (gains_s
 
     -- bits that are taken out leave the market kept, covered or not
     module _ (none : None ≡ first_refusal (market_of file) journal.history (Withdraw name bits))
-        (now : Assets A Plan) (new_accounts : List Account) (new_journal : JournalOf)
+        (now : Assets A Plan) (new_ledger : LedgerOf) (new_journal : JournalOf)
         (history : new_journal.history ≡ journal.history ++ Withdraws user bits ∷ []) where
       same_quotes : quotes_of (with_assets members user now) ≡ quotes_of members
       same_quotes = quotes_same members user before now there
@@ -172,18 +174,18 @@ module _ {P A Plan : Type 0} (weights_stand : P → Meaning → Type 0) (gains_s
       next = ap₂ (λ (H : List Entry) (qs : List (Option LastQuote)). record { history = H; quotes = map (option_map quoted) qs })
           (history ∙ ap (λ (v : ℕ). journal.history ++ Withdraws v bits ∷ []) is_user.number) same_quotes
 
-      pub withdrawal_kept : new_journal.max_trades ≡ journal.max_trades
+      pub withdrawal_kept : TakesAsMuch journal new_journal
           → ((h : Holding) → Owns gains_stand mid h → h.withdrawn + bits ≤ max_bits → Owns gains_stand now (with_withdrawal bits h))
-          → new_accounts ≡ slice_set accounts user (let account = account_of accounts user in record account { withdrawn = account.withdrawn + file.points_per_bit * bits })
-          → IsKept weights_stand gains_stand plan_for file prices rows plan (with_assets members user now) new_accounts new_journal payments
+          → new_ledger ≡ record ledger { accounts = slice_set ledger.accounts user (let account = account_of ledger.accounts user in record account { withdrawn = account.withdrawn + file.points_per_bit * bits }) }
+          → IsKept weights_stand gains_stand plan_for file prices rows plan (with_assets members user now) new_ledger new_journal payments till
       unfolding reply
-      withdrawal_kept limit withdraws paid =
+      withdrawal_kept limits withdraws paid =
           let H = journal.history in
-          kept_grown weights_stand gains_stand plan_for file prices prices rows rows plan members (with_assets members user now) accounts new_accounts journal new_journal payments payments
+          kept_grown weights_stand gains_stand plan_for file prices prices rows rows plan members (with_assets members user now) ledger new_ledger journal new_journal payments payments till till
           (Withdraws user bits) (Withdraw name bits) reply tt tt tt kept fit next
           (record {
             history = history;
-            limit = limit;
+            limits = limits;
             prices_grown = λ m stands. stands;
             rows_grown = λ m stands. stands;
             names = names_same members user before now there ∙ kept.named ∙ sym (not_found H (Withdraws user bits) Rattle.mk_exact.specs.History.join_in refl);
@@ -192,8 +194,10 @@ module _ {P A Plan : Type 0} (weights_stand : P → Meaning → Type 0) (gains_s
                 (withdraws (holding_of file.net file.tree H user) (still (holding_of file.net file.tree H user) (kept.owns user before there)) bits_fit))
                 (withdrawal_others file.net file.tree H user bits);
             none_quoted = λ u quote at. subst (λ (qs : List (Option LastQuote)). slice_get qs u ≡ Some (Some quote)) same_quotes at;
-            accounts = rw paid (accounts_withdrawn (market_of file) H (unsettled (market_of file) H (Withdraw name bits) none) accounts user bits (file.points_per_bit * bits) is_user.within refl kept.accounts_kept);
+            accounts = rw paid (accounts_withdrawn (market_of file) H (unsettled (market_of file) H (Withdraw name bits) none) ledger.accounts user bits (file.points_per_bit * bits) is_user.within refl kept.accounts_kept);
+            ledger_room = rw paid kept.ledger_room;
             room = λ unsettled. kept.room (sym (not_there H (Withdraws user bits) is_settlement refl) ∙ unsettled);
+            till_room = λ unsettled. kept.till_room (sym (not_there H (Withdraws user bits) is_settlement refl) ∙ unsettled);
           })
 
       pub withdrawal_next : (at : ℕ) → standing_of new_journal (with_assets members user now) ≡ after (market_of file) (standing_of journal members) (OfCommand (Withdraw name bits)) (Withdrawn name bits at)

@@ -19,7 +19,7 @@ use Rattle.mk_enclose.specs.Enclosure.{Encloses, IsExact, IsGradedWithin}
 use Rattle.mk_enclose.specs.Factor.{StandsFor}
 use Rattle.mk_assets.specs.declared.assets.Assets.{Assets}
 use Rattle.mk_assets.specs.Holdings.{Holding, Owns}
-use Rattle.mk_cash.specs.declared.ledger.Account.{Account}
+use Rattle.mk_cash.specs.Accounts.{LedgerOf}
 use Rattle.mk_record.specs.declared.last_quote.LastQuote.{LastQuote}
 use Rattle.mk_command.specs.declared.command.Command.TheVariants.{Worst}
 use Rattle.mk_reply.specs.declared.payments.Payment.{Payment}
@@ -38,12 +38,13 @@ use Rattle.mk_market.proofs.Growing.{is_open, kept_still}
 use Rattle.mk_market.proofs.Owned.{names_same, quotes_same, all_still}
 use Rattle.mk_market.proofs.Replies.{answer_allowed, none_appended}
 use Rattle.mk_market.proofs.Weaker.{cash_when}
+use Rattle.mk_replay.specs.Tills.{TillOf}
 
 module _ {P A Plan : Type 0} (weights_stand : P → Meaning → Type 0) (gains_stand : A → Meaning → Type 0) (plan_for : Plan → List Variable → GivenTree → Type 0)
-    (file : MarketFile) (prices : P) (rows : A) (plan : Plan) (members : List (Member A Plan)) (accounts : List Account) (journal : JournalOf) (payments : Option (List Payment))
-    (kept : IsKept weights_stand gains_stand plan_for file prices rows plan members accounts journal payments) where
+    (file : MarketFile) (prices : P) (rows : A) (plan : Plan) (members : List (Member A Plan)) (ledger : LedgerOf) (journal : JournalOf) (payments : Option (List Payment)) (till : Option TillOf)
+    (kept : IsKept weights_stand gains_stand plan_for file prices rows plan members ledger journal payments till) where
   opened : IsOpen file.net file.tree journal.history
-  opened = is_open weights_stand gains_stand plan_for file prices rows plan members accounts journal payments kept
+  opened = is_open weights_stand gains_stand plan_for file prices rows plan members ledger journal payments till kept
 
   -- a user
   module _ (name : List ℕ) (user : ℕ) (is_user : IsUser journal.history name user) (before now : Assets A Plan) (there : slice_get (assets_of members) user ≡ Some before) where
@@ -100,8 +101,8 @@ module _ {P A Plan : Type 0} (weights_stand : P → Meaning → Type 0) (gains_s
         ∙ none_appended (market_of file) (standing_of journal members) (Worst name) (Worsted low high) refl refl
 
     pub worst_kept : ((h : Holding) → Owns gains_stand before h → Owns gains_stand now h)
-        → IsKept weights_stand gains_stand plan_for file prices rows plan (with_assets members user now) accounts journal payments
-    worst_kept still = kept_still weights_stand gains_stand plan_for file prices prices rows plan members (with_assets members user now) accounts journal payments kept
+        → IsKept weights_stand gains_stand plan_for file prices rows plan (with_assets members user now) ledger journal payments till
+    worst_kept still = kept_still weights_stand gains_stand plan_for file prices prices rows plan members (with_assets members user now) ledger journal payments till kept
         (record {
           prices_still = λ m stands. stands;
           names_still = names_same members user before now there;

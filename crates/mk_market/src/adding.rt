@@ -184,6 +184,8 @@ fn longer_file(
         tree,
         points_per_bit: file.points_per_bit,
         max_trades: file.max_trades,
+        max_users: file.max_users,
+        max_transfers: file.max_transfers,
         zeros: file.zeros,
     })
 }

@@ -46,6 +46,7 @@ impl<P: Engine<SumProd>, A: Engine<MinProd>> Market<P, A> {
                 at,
             } => self.answer_spread(user, variable, condition, to, *at),
             CommandRef::Worst { user } => self.answer_worst(user),
+            CommandRef::Paid { user } => self.paid(user),
             CommandRef::Resolve { pair } => self.answer_resolve(pair),
             CommandRef::Settle => self.answer_settle(),
             CommandRef::Bound => self.answer_bound(),

@@ -8,6 +8,7 @@ mod joining;
 mod laws;
 mod market;
 mod opening;
+mod paying;
 mod possible;
 mod pricing;
 mod quoting;

@@ -5,6 +5,7 @@ use mk_engine::Engine;
 use mk_file::MarketFile;
 use mk_net::NoMemory;
 use mk_record::{Entry, Journal, Users};
+use mk_replay::Till;
 use mk_reply::Payments;
 use mk_semiring::{MinProd, SumProd};
 use std::alloc::Global;
@@ -13,7 +14,7 @@ use std::marker::Model;
 /// A market in use: its file with what was added to it, an engine with the weights of all states and
 /// one with their initial weights, the plan from which users' engines start, the users with their
 /// assets and last quotes, the ledger of their points, the journal of accepted changes, and room for
-/// the payments of the settlement.
+/// the payments of the settlement: for those that its reply lists, and for one for each user.
 ///
 /// What its answers are made of is open to a crate above that asks more (`mk_evidence`): whoever
 /// writes to a part proves the market kept. A call that lends an engine could not, since it would
@@ -28,6 +29,7 @@ pub struct Market<P: Engine<SumProd>, A: Engine<MinProd>> {
     pub(crate) ledger: Ledger,
     pub journal: Journal,
     pub(crate) payments: Option<Payments>,
+    pub(crate) till: Option<Till>,
 }
 
 impl<P: Engine<SumProd>, A: Engine<MinProd>> Model for Market<P, A> {
@@ -37,9 +39,9 @@ impl<P: Engine<SumProd>, A: Engine<MinProd>> Model for Market<P, A> {
 
     ghost Value = { Trading };
 
-    ghost view = { λ m. record { market = market_of m.file; standing = standing_of m.journal m.users; accounts = m.ledger } };
+    ghost view = { λ m. record { market = market_of m.file; standing = standing_of m.journal m.users; accounts = m.ledger.accounts } };
 
-    ghost invariant = { λ m. IsKept P.stands_for A.stands_for A.plan_for m.file m.prices m.rows m.plan m.users m.ledger m.journal m.payments };
+    ghost invariant = { λ m. IsKept P.stands_for A.stands_for A.plan_for m.file m.prices m.rows m.plan m.users m.ledger m.journal m.payments m.till };
 }
 
 impl<P: Engine<SumProd>, A: Engine<MinProd>> Market<P, A> {
@@ -86,8 +88,8 @@ impl<P: Engine<SumProd>, A: Engine<MinProd>> Market<P, A> {
 
     /// What each user deposited, withdrew and was paid.
     pub fn ledger(&self) -> &Ledger
-        ensures same { result.now ≡ self.now.accounts }
-        ensures accounts { AreAccounts self.now.market (self.now.standing).history result.now }
+        ensures same { result.now.accounts ≡ self.now.accounts }
+        ensures accounts { AreAccounts self.now.market (self.now.standing).history result.now.accounts }
     {
         &self.ledger
     }

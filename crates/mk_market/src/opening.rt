@@ -5,7 +5,8 @@ use mk_cash::Ledger;
 use mk_engine::Engine;
 use mk_file::MarketFile;
 use mk_net::NoMemory;
-use mk_record::{Journal, Users};
+use mk_record::{Journal, Limits, Users};
+use mk_replay::Till;
 use mk_reply::Payments;
 use mk_semiring::{MinProd, Semiring, SumProd};
 use std::alloc::Global;
@@ -49,9 +50,15 @@ impl<P: Engine<SumProd>, A: Engine<MinProd>> Market<P, A> {
     {
         let prices = weighed::<SumProd, P>(alloc, &file, prices)?;
         let rows = weighed::<MinProd, A>(alloc, &file, &assets)?;
-        let ledger = Ledger::start(alloc)?;
-        let journal = Journal::start(alloc, file.max_trades)?;
+        let ledger = Ledger::start(alloc, file.max_users)?;
+        let limits = Limits {
+            trades: file.max_trades,
+            users: file.max_users,
+            transfers: file.max_transfers,
+        };
+        let journal = Journal::start(alloc, limits)?;
         let payments = Payments::start(alloc)?;
+        let till = Till::start(alloc, file.max_users)?;
         Ok(Market {
             file,
             prices,
@@ -61,6 +68,7 @@ impl<P: Engine<SumProd>, A: Engine<MinProd>> Market<P, A> {
             ledger,
             journal,
             payments: Some(payments),
+            till: Some(till),
         })
     }
 }

@@ -2,20 +2,23 @@
 
 use crate::market::Market;
 use crate::restoring::RestoreFault;
-use crate::stored::{told_factors, told_payments, told_units};
+use crate::settling::{MAX_LISTED, book, list, pay_all_by_rule};
+use crate::stored::{tells_total, told_factors, told_payments, told_units};
 use crate::trading::{ratio_of_edit, ratio_of_spread, trade};
-use mk_cash::Ledger;
 use mk_engine::Engine;
 use mk_net::Name;
 use mk_record::{EditWish, SpreadWish, refuse_edit, refuse_settle, refuse_spread};
-use mk_reply::{Payments, Reply};
+use mk_reply::Reply;
 use mk_semiring::{MinProd, SumProd};
 
 impl<P: Engine<SumProd>, A: Engine<MinProd>> Market<P, A> {
     ghost use Rattle.mk_command.specs.declared.command.Command.TheVariants.{Edit, Spread, Settle};
-    ghost use Rattle.std.specs.Prelude.{◌≡◌, ◌≤◌, ℕ, length};
+    ghost use Rattle.std.specs.Prelude.{◌≡◌, ◌<◌, ◌≤◌, ℕ, length, None};
     ghost use Rattle.arrayvec.specs.ArrayVec.{ArrayVec as Several};
-    ghost use Rattle.mk_net.specs.Bounds.{max_condition, max_values};
+    ghost use Rattle.mk_net.specs.Bounds.{max_condition, max_values, max_payments};
+    ghost use Rattle.mk_exact.specs.History.{users};
+    ghost use Rattle.mk_rules.specs.Refusals.{first_refusal};
+    ghost use Rattle.mk_record.specs.Refused.{CanBeSettled};
     ghost use Rattle.mk_net.specs.declared.words.PairText.{PairText as Words};
     ghost use Rattle.mk_reply.specs.Replies.{IsReply};
     ghost use Rattle.mk_market.specs.inner.Restored.{IsTried};
@@ -78,37 +81,57 @@ impl<P: Engine<SumProd>, A: Engine<MinProd>> Market<P, A> {
         Ok(())
     }
 
-    /// Each user is paid what the reply tells.
+    /// Each user is paid what the reply tells, or by rule where it lists no payments.
     pub(crate) fn restore_settlement(&mut self, reply: &Reply) -> Result<(), RestoreFault>
         requires { IsReply reply.now }
+        ensures { IsTried self.old self.new Settle reply.now result }
+    {
+        refuse_settle(&self.file, &self.journal)?;
+        if self.users.count() > MAX_LISTED {
+            self.restore_by_rule(reply)
+        } else {
+            self.restore_listed(reply)
+        }
+    }
+
+    /// Each user is paid what the reply tells.
+    fn restore_listed(&mut self, reply: &Reply) -> Result<(), RestoreFault>
+        requires told { IsReply reply.now }
+        requires can { CanBeSettled (self.old.market).network (self.old.standing).history }
+        requires unrefused { None ≡ first_refusal self.old.market (self.old.standing).history Settle }
+        requires few { length (users (self.old.standing).history) ≤ max_payments }
         ensures { IsTried self.old self.new Settle reply.now result }
     {
         let Some(payments) = told_payments(&self.journal, &self.users, reply) else {
             return Err(RestoreFault::Unfit);
         };
-        refuse_settle(&self.file, &self.journal)?;
-        book(&mut self.ledger, payments);
-        self.journal.settle();
+        let Some(mut till) = self.till.take() else {
+            unreachable!()
+        };
+        list(&mut till, payments.rows());
+        book(&mut self.ledger, till.rows());
+        self.journal.settle(till.into_payments());
         Ok(())
     }
-}
 
-ghost use Rattle.std.specs.Prelude.{◌≡◌, ◌<◌, ℕ, length, Some, slice_get};
-ghost use Rattle.mk_cash.specs.Accounts.{account_of};
-ghost use Rattle.mk_net.specs.Bounds.{number_limit};
-ghost use Rattle.mk_reply.specs.declared.payments.Payment.{Payment as Paid};
-ghost use Rattle.mk_market.specs.inner.Paying.{ArePaid};
-
-/// Books payments, one for each account, to which nothing was paid.
-fn book(ledger: &mut Ledger, payments: &Payments)
-    requires one_each { length payments.now ≡ length ledger.old }
-    requires unpaid { (u : ℕ) → u < length ledger.old → (account_of ledger.old u).paid ≡ 0 }
-    requires fit { (u : ℕ) (payment : Paid) → slice_get payments.now u ≡ Some payment
-        → payment.paid < number_limit }
-    ensures { ArePaid ledger.old ledger.new payments.now }
-{
-    let rows = payments.rows();
-    for user in 0..rows.len() as u32 {
-        ledger.pay(user, rows[user as usize].paid);
+    /// Each user is paid by rule, where the reply tells what all are paid by it.
+    fn restore_by_rule(&mut self, reply: &Reply) -> Result<(), RestoreFault>
+        requires can { CanBeSettled (self.old.market).network (self.old.standing).history }
+        requires unrefused { None ≡ first_refusal self.old.market (self.old.standing).history Settle }
+        requires many { max_payments < length (users (self.old.standing).history) }
+        ensures { IsTried self.old self.new Settle reply.now result }
+    {
+        let Some(mut till) = self.till.take() else {
+            unreachable!()
+        };
+        pay_all_by_rule(&self.file, &self.journal, &mut till);
+        if !tells_total(&self.journal, till.total(), reply) {
+            till.clear();
+            self.till = Some(till);
+            return Err(RestoreFault::Unfit);
+        }
+        book(&mut self.ledger, till.rows());
+        self.journal.settle(till.into_payments());
+        Ok(())
     }
 }

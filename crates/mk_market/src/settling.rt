@@ -5,93 +5,145 @@ use mk_answers::least_of;
 use mk_cash::{Ledger, cash};
 use mk_engine::Engine;
 use mk_file::MarketFile;
-use mk_record::{Journal, Users, refuse_settle};
-use mk_reply::{Payment, Payments, Refusal, Reply};
+use mk_record::{Journal, Payout, Users, refuse_settle};
+use mk_replay::{Till, outcome_of};
+use mk_reply::{Payment, Payments, Reply};
 use mk_semiring::{MinProd, SumProd};
 
+/// The most payments that the reply to a settlement lists.
+pub(crate) const MAX_LISTED: u32 = 256;
+
 impl<P: Engine<SumProd>, A: Engine<MinProd>> Market<P, A> {
+    ghost use Rattle.std.specs.Prelude.{◌≡◌, ◌<◌, ◌≤◌, length, None};
+    ghost use Rattle.mk_net.specs.Bounds.{max_payments};
+    ghost use Rattle.mk_exact.specs.History.{users};
+    ghost use Rattle.mk_exact.specs.ByRule.{payments_by_rule, paid_in_all};
     ghost use Rattle.mk_command.specs.declared.command.Command.TheVariants.{Settle};
+    ghost use Rattle.mk_rules.specs.Refusals.{first_refusal};
+    ghost use Rattle.mk_record.specs.Refused.{CanBeSettled};
     ghost use Rattle.mk_market.specs.Trading.{IsAnswered};
-    ghost use Rattle.mk_market.specs.inner.Answering.{IsAnsweredBy};
-    ghost use Rattle.mk_reply.specs.declared.reply.Reply.TheVariants as reply;
 
     /// Answers that the market is to be settled.
     pub(crate) fn answer_settle(&mut self) -> Reply
         ensures { IsAnswered self.old self.new Settle result }
     {
-        match self.settle() {
-            Ok((at, payments)) => Reply::Settled { at, payments },
-            Err(why) => Reply::Refused { why },
+        if let Err(why) = refuse_settle(&self.file, &self.journal) {
+            return Reply::Refused { why };
+        }
+        if self.users.count() > MAX_LISTED {
+            self.settle_by_rule()
+        } else {
+            self.settle_listed()
         }
     }
 
-    /// Each user is paid what the user's factor is worth in the one state that is left. It gives
-    /// the revision and the payments.
-    fn settle(&mut self) -> Result<(u64, Payments), Refusal>
-        ensures { IsAnsweredBy self.old self.new Settle
-            result (λ settled. reply.Settled settled.0 settled.1) }
+    /// The points that all users together are paid by rule, where the market can be settled and more
+    /// users joined than a settlement may list payments to. The auditor asks it.
+    pub fn total_by_rule(&mut self) -> u64
+        requires unrefused { None ≡ first_refusal self.old.market (self.old.standing).history Settle }
+        ensures same { self.new ≡ self.old }
+        ensures total { result ≡ paid_in_all (payments_by_rule self.old.market.network
+            (self.old.standing).history self.old.market.points_per_bit) }
     {
-        refuse_settle(&self.file, &self.journal)?;
-        let Some(mut payments) = self.payments.take() else {
+        let Some(till) = &mut self.till else {
             unreachable!()
         };
-        pay(
-            &self.file,
-            &self.journal,
-            &mut self.users,
-            &mut self.ledger,
-            &mut payments,
-        );
-        self.journal.settle();
-        Ok((self.journal.revision(), payments))
+        pay_all_by_rule(&self.file, &self.journal, till);
+        let total = till.total();
+        till.clear();
+        total
+    }
+
+    /// Each user is paid what the user's factor is worth in the one state that is left, and the
+    /// reply lists the payments.
+    fn settle_listed(&mut self) -> Reply
+        requires can { CanBeSettled (self.old.market).network (self.old.standing).history }
+        requires unrefused { None ≡ first_refusal self.old.market (self.old.standing).history Settle }
+        requires few { length (users (self.old.standing).history) ≤ max_payments }
+        ensures { IsAnswered self.old self.new Settle result }
+    {
+        let (Some(mut payments), Some(mut till)) = (self.payments.take(), self.till.take()) else {
+            unreachable!()
+        };
+        pay(&self.file, &self.journal, &mut self.users, &mut payments);
+        list(&mut till, payments.rows());
+        book(&mut self.ledger, till.rows());
+        self.journal.settle(till.into_payments());
+        Reply::Settled {
+            at: self.journal.revision(),
+            payments,
+        }
+    }
+
+    /// Each user is paid by rule, and the reply tells what all are paid.
+    fn settle_by_rule(&mut self) -> Reply
+        requires can { CanBeSettled (self.old.market).network (self.old.standing).history }
+        requires unrefused { None ≡ first_refusal self.old.market (self.old.standing).history Settle }
+        requires many { max_payments < length (users (self.old.standing).history) }
+        ensures { IsAnswered self.old self.new Settle result }
+    {
+        let Some(mut till) = self.till.take() else {
+            unreachable!()
+        };
+        pay_all_by_rule(&self.file, &self.journal, &mut till);
+        let total = till.total();
+        book(&mut self.ledger, till.rows());
+        self.journal.settle(till.into_payments());
+        Reply::SettledAll {
+            at: self.journal.revision(),
+            users: self.journal.joined(),
+            total,
+        }
     }
 }
 
-ghost use Rattle.std.specs.Prelude.{◌≡◌, ◌<◌, ℕ, List, [], ◌∷◌, length, map, false, Some};
-ghost use Rattle.std.specs.Prelude.{slice_get};
+ghost use Rattle.std.specs.Prelude.{◌≡◌, ◌<◌, ◌≤◌, ℕ, List, [], ◌∷◌, ◌++◌, length, map, false, Some};
+ghost use Rattle.std.specs.Prelude.{slice_get, All};
 ghost use Rattle.std.specs.List.{AllZip, enumerate_from};
-ghost use Rattle.mk_net.specs.Bounds.{number_limit};
+ghost use Rattle.mk_net.specs.Bounds.{max_users, number_limit};
 ghost use Rattle.mk_states.specs.Events.{always};
-ghost use Rattle.mk_exact.specs.History.{is_settled};
+ghost use Rattle.mk_exact.specs.History.{is_settled, users as users_of, payment_to, or_nothing};
+ghost use Rattle.mk_exact.specs.ByRule.{payments_by_rule};
 ghost use Rattle.mk_exact.specs.Sound.{IsSound};
 ghost use Rattle.mk_exact.specs.Weight.{possible_states};
 ghost use Rattle.mk_assets.specs.Holdings.{Holding};
+ghost use Rattle.mk_cash.specs.Accounts.{account_of};
 ghost use Rattle.mk_file.specs.MarketOf.{market_of};
-ghost use Rattle.mk_rules.specs.Answers.{IsPayment};
+ghost use Rattle.mk_reply.specs.declared.payments.Payment.{Payment as Told};
+ghost use Rattle.mk_rules.specs.Answers.{IsPayment, ends_of};
+ghost use Rattle.mk_restore.specs.Laws.{IsSafe};
 ghost use Rattle.mk_answers.specs.Open.{IsOpen, holding_of};
+ghost use Rattle.mk_record.specs.Entries.{ends};
 ghost use Rattle.mk_record.specs.Members.{names_of, quotes_of};
-ghost use Rattle.mk_market.specs.Points.{AreAccounts};
+ghost use Rattle.mk_record.specs.Refused.{CanBeSettled};
 ghost use Rattle.mk_market.specs.inner.Quoting.{OwnsAt};
 ghost use Rattle.mk_market.specs.inner.Paying.{ArePaid};
 
-/// Pays each user, in the order of joining.
+/// The payment to each user, in the order of joining.
 fn pay<A: Engine<MinProd>>(
     file: &MarketFile,
     journal: &Journal,
     users: &mut Users<A>,
-    ledger: &mut Ledger,
     payments: &mut Payments,
 )
     requires is_open { IsOpen file.now.net file.now.tree journal.now.history }
     requires owns { (u : ℕ) → OwnsAt A.stands_for users.old u (holding_of file.now.net file.now.tree journal.now.history u) }
-    requires accounts { AreAccounts (market_of file.now) journal.now.history ledger.old }
-    requires one_each { length ledger.old ≡ length users.old }
-    requires unsettled { is_settled journal.now.history ≡ false }
+    requires few { length users.old ≤ 256 }
     requires unpaid { payments.old ≡ [] }
     ensures assets { (u : ℕ) (h : Holding) → OwnsAt A.stands_for users.old u h → OwnsAt A.stands_for users.new u h }
     ensures names { names_of users.new ≡ names_of users.old }
     ensures quotes { quotes_of users.new ≡ quotes_of users.old }
-    ensures ledger { ArePaid ledger.old ledger.new payments.new }
     ensures in_order { map (λ p. p.user) payments.new ≡ names_of users.old }
+    ensures low_ends { All (λ p. p.paid ≡ p.low) payments.new }
+    ensures fit { All (λ p. p.high < number_limit) payments.new }
+    ensures lows_fit { All (λ p. p.low < number_limit) payments.new }
     ensures payments { IsSound file.now.net journal.now.history
         → (state : List ℕ) → possible_states file.now.net journal.now.history always ≡ state ∷ []
         → AllZip (IsPayment file.now.net journal.now.history file.now.points_per_bit state)
         (enumerate_from 0 (names_of users.old)) payments.new }
 {
     for user in 0..users.count() {
-        let payment = payment_of(file, journal, users, user);
-        ledger.pay(user, payment.paid);
-        payments.push(payment);
+        payments.push(payment_of(file, journal, users, user));
     }
 }
 
@@ -115,7 +167,9 @@ fn payment_of<A: Engine<MinProd>>(
         → slice_get (names_of users.old) user ≡ Some name
         → IsPayment file.now.net journal.now.history file.now.points_per_bit state (user, name)
         result }
-    ensures fits { result.paid < number_limit }
+    ensures low_end { result.paid ≡ result.low }
+    ensures low_fits { result.low < number_limit }
+    ensures high_fits { result.high < number_limit }
 {
     let factor = least_of(users.assets(user));
     let (low, high) = cash(&factor, file.points_per_bit);
@@ -124,5 +178,52 @@ fn payment_of<A: Engine<MinProd>>(
         low,
         high,
         paid: low,
+    }
+}
+
+/// Puts the two ends of payments into a till.
+pub(crate) fn list(till: &mut Till, payments: &[Payment])
+    requires none { till.old.payments ≡ [] }
+    requires room { length payments.now ≤ till.old.room }
+    ensures { till.new ≡ record till.old { payments = map ends_of payments.now } }
+{
+    for payment in payments {
+        till.push(payment.low, payment.high);
+    }
+}
+
+/// Puts the payments by rule to all users into a till, in place of those that were there.
+pub(crate) fn pay_all_by_rule(file: &MarketFile, journal: &Journal, till: &mut Till)
+    requires safe { IsSafe (market_of file.now) journal.now.history }
+    requires can { CanBeSettled file.now.net journal.now.history }
+    requires room { length (users_of journal.now.history) ≤ till.old.room }
+    ensures { till.new ≡ record till.old {
+      payments =
+          payments_by_rule file.now.net journal.now.history file.now.points_per_bit;
+    } }
+{
+    let state = outcome_of(journal.known(), file.net.variables());
+    till.pay_by_rule(
+        journal.entries(),
+        journal.joined(),
+        state.as_slice(),
+        file.points_per_bit,
+    );
+}
+
+/// Books payments, one for each account, to which nothing was paid.
+pub(crate) fn book(ledger: &mut Ledger, payments: &[Payout])
+    requires few { length payments.now ≤ max_users }
+    requires one_each { length payments.now ≡ length ledger.old.accounts }
+    requires unpaid { (u : ℕ) → u < length ledger.old.accounts → (account_of ledger.old.accounts u).paid ≡ 0 }
+    requires lows_fit { All (λ p. p.low < number_limit) payments.now }
+    requires fit { All (λ p. p.high < number_limit) payments.now }
+    ensures entered { ArePaid ledger.old.accounts ledger.new.accounts (map ends payments.now) }
+    ensures room { ledger.new.room ≡ ledger.old.room }
+{
+    let mut user = 0;
+    for payment in payments {
+        ledger.pay(user, payment.low, payment.high);
+        user += 1;
     }
 }

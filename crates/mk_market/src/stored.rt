@@ -1,10 +1,10 @@
 //! What a reply tells of the change that it comes back for.
 
 ghost use Rattle.std.specs.Prelude.{◌≡◌, ◌+◌, ◌↔◌, true, length, map, IfSome, IfNone};
-ghost use Rattle.mk_exact.specs.History.{revision};
-ghost use Rattle.mk_command.specs.declared.command.Command.TheVariants as command;
-ghost use Rattle.mk_reply.specs.declared.reply.Reply.TheVariants.{Traded, Spreaded, Settled, Added};
-ghost use Rattle.mk_restore.specs.Restoring.{Agrees, IsTradeAt, IsSpreadAt, IsSettledAt};
+ghost use Rattle.mk_exact.specs.History.{revision, users};
+ghost use Rattle.mk_reply.specs.declared.reply.Reply.TheVariants.{Joined, Deposited, Withdrawn, Resolved};
+ghost use Rattle.mk_reply.specs.declared.reply.Reply.TheVariants.{Traded, Spreaded, Settled, SettledAll, Added};
+ghost use Rattle.mk_restore.specs.Restoring.{IsTradeAt, IsSpreadAt, IsListed};
 ghost use Rattle.mk_record.specs.Members.{names_of};
 
 use arrayvec::ArrayVec;
@@ -24,7 +24,7 @@ fn is_next(journal: &Journal, at: u64) -> bool
 
 /// Whether a reply tells that the user joined by the next change.
 pub(crate) fn tells_join(journal: &Journal, name: &Name, reply: &Reply) -> bool
-    ensures { (result ≡ true) ↔ Agrees journal.now.history (command.User name.now) reply.now }
+    ensures { (result ≡ true) ↔ (reply.now ≡ Joined name.now (revision journal.now.history + 1)) }
 {
     match reply {
         Reply::Joined { user, at } => user == name && is_next(journal, *at),
@@ -34,8 +34,8 @@ pub(crate) fn tells_join(journal: &Journal, name: &Name, reply: &Reply) -> bool
 
 /// Whether a reply tells that the user paid in so many bits by the next change.
 pub(crate) fn tells_deposit(journal: &Journal, name: &Name, bits: u32, reply: &Reply) -> bool
-    ensures { (result ≡ true) ↔ Agrees journal.now.history (command.Deposit name.now bits)
-        reply.now }
+    ensures { (result ≡ true) ↔ (reply.now ≡ Deposited name.now bits
+        (revision journal.now.history + 1)) }
 {
     match reply {
         Reply::Deposited {
@@ -49,8 +49,8 @@ pub(crate) fn tells_deposit(journal: &Journal, name: &Name, bits: u32, reply: &R
 
 /// Whether a reply tells that the user took out so many bits by the next change.
 pub(crate) fn tells_withdrawal(journal: &Journal, name: &Name, bits: u32, reply: &Reply) -> bool
-    ensures { (result ≡ true) ↔ Agrees journal.now.history (command.Withdraw name.now bits)
-        reply.now }
+    ensures { (result ≡ true) ↔ (reply.now ≡ Withdrawn name.now bits
+        (revision journal.now.history + 1)) }
 {
     match reply {
         Reply::Withdrawn {
@@ -64,7 +64,8 @@ pub(crate) fn tells_withdrawal(journal: &Journal, name: &Name, bits: u32, reply:
 
 /// Whether a reply tells that a variable was resolved by the next change.
 pub(crate) fn tells_resolution(journal: &Journal, words: &PairText, reply: &Reply) -> bool
-    ensures { (result ≡ true) ↔ Agrees journal.now.history (command.Resolve words.now) reply.now }
+    ensures { (result ≡ true) ↔ (reply.now ≡ Resolved words.now
+        (revision journal.now.history + 1)) }
 {
     match reply {
         Reply::Resolved { pair, at } => pair == words && is_next(journal, *at),
@@ -126,13 +127,28 @@ pub(crate) fn told_payments<'a, A: Engine<MinProd>>(
         Settled (revision journal.now.history + 1) payments.now) }
     ensures in_order { IfSome result (λ payments. map (λ p. p.user) payments.now
         ≡ names_of users.now) }
-    ensures none { IfNone result (IsSettledAt (revision journal.now.history + 1)
+    ensures none { IfNone result (IsListed (revision journal.now.history + 1)
         (names_of users.now) reply.now → ⊥) }
 {
     match reply {
         Reply::Settled { at, payments }
             if is_next(journal, *at) && pays_each(users, payments.rows()) => Some(payments),
         _ => None,
+    }
+}
+
+/// Whether a reply tells of the next change that so many points are paid to all users by rule.
+pub(crate) fn tells_total(journal: &Journal, total: u64, reply: &Reply) -> bool
+    ensures { (result ≡ true) ↔ (reply.now ≡ SettledAll (revision journal.now.history + 1)
+        (length (users journal.now.history)) total) }
+{
+    match reply {
+        Reply::SettledAll {
+            at,
+            users,
+            total: told,
+        } => is_next(journal, *at) && *users == journal.joined() && *told == total,
+        _ => false,
     }
 }
 

@@ -6,7 +6,7 @@ use arrayvec::ArrayVec;
 use mk_answers::{position_of, prices_of};
 use mk_engine::Engine;
 use mk_net::{Name, PairText};
-use mk_record::{Journal, MAX_TRANSFERS, not_settled, refuse_bounds, refuse_prices};
+use mk_record::{Journal, not_settled, refuse_bounds, refuse_prices};
 use mk_reply::{Refusal, Reply, Spans};
 use mk_semiring::{MinProd, SumProd};
 
@@ -114,7 +114,7 @@ impl<P: Engine<SumProd>, A: Engine<MinProd>> Market<P, A> {
             trades: self.journal.trades(),
             most: self.journal.max_trades(),
             transfers: self.journal.transfers(),
-            most_transfers: MAX_TRANSFERS,
+            most_transfers: self.journal.max_transfers(),
             open: open_questions(&self.journal, questions),
             questions,
         }

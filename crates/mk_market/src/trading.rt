@@ -14,6 +14,7 @@ ghost use Rattle.mk_engine.specs.Meaning.{Meaning, RatioOf, with_factor};
 ghost use Rattle.mk_quote.specs.Questions.{spread_in};
 ghost use Rattle.mk_answers.specs.Open.{holding_of};
 ghost use Rattle.mk_record.specs.Members.{names_of, quotes_of};
+ghost use Rattle.mk_market.specs.inner.Keeping.{TakesAsMuch};
 ghost use Rattle.mk_market.specs.inner.Quoting.{OwnsAt, CanBeMade};
 
 use arrayvec::ArrayVec;
@@ -65,7 +66,7 @@ pub(crate) fn trade<P: Engine<SumProd>, A: Engine<MinProd>>(
     requires { CanBeMade P.stands_for A.stands_for prices.old users.old journal.old user home
         (trade_ratio ratio) }
     ensures history { journal.new.history ≡ journal.old.history ++ Trade user (trade_ratio ratio) ∷ [] }
-    ensures limit { journal.new.max_trades ≡ journal.old.max_trades }
+    ensures limits { TakesAsMuch journal.old journal.new }
     ensures prices { (m : Meaning) → P.stands_for prices.old m → P.stands_for prices.new (with_factor (RatioOf (trade_ratio ratio)) m) }
     ensures assets { (network : List Variable) (tree : GivenTree) → ((u : ℕ) → OwnsAt A.stands_for users.old u (holding_of network tree journal.old.history u))
         → (u : ℕ) → OwnsAt A.stands_for users.new u (holding_of network tree (journal.old.history ++ Trade user (trade_ratio ratio) ∷ []) u) }

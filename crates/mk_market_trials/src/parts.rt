@@ -10,7 +10,7 @@ use mk_engine::Engine;
 use mk_joint::JointEngine;
 use mk_net::{Event, Name, Pair, Question, Ratio};
 use mk_quote::{Bounds, Quote};
-use mk_record::{Entry, Journal, LastQuote, Users};
+use mk_record::{Entry, Journal, LastQuote, Limits, Payout, Users};
 use mk_semiring::MinProd;
 use std::alloc::Global;
 use std::process::Abort;
@@ -43,7 +43,7 @@ fn kind(entry: &Entry) -> u8 {
         Entry::Withdraw { .. } => b'w',
         Entry::Trade { .. } => b't',
         Entry::Resolve { .. } => b'r',
-        Entry::Settle => b's',
+        Entry::Settle { .. } => b's',
         Entry::Add { .. } => b'a',
     }
 }
@@ -56,9 +56,9 @@ fn expect_kinds(rt: &impl Abort, entries: &[Entry], kinds: &[u8]) {
     }
 }
 
-fn settle(rt: &impl Abort, journal: &mut Journal) {
+fn settle(rt: &impl Abort, journal: &mut Journal, payments: Vec<Payout>) {
     assert!(rt; !journal.is_settled());
-    journal.settle();
+    journal.settle(payments);
     assert!(rt; journal.is_settled());
 }
 
@@ -85,8 +85,8 @@ fn resolve(rt: &impl Abort, journal: &mut Journal) {
 }
 
 /// Each kind of entry comes into a journal.
-fn fill_and_settle(rt: &impl Abort, journal: &mut Journal)
-    requires { journal.old ≡ record { history = []; max_trades = 2 } }
+fn fill_and_settle(rt: &impl Abort, journal: &mut Journal, payments: Vec<Payout>)
+    requires { journal.old ≡ record { history = []; max_trades = 2; max_users = 1; max_transfers = 2 } }
 {
     journal.join(name(rt, b"ann"));
     journal.deposit(0, 9);
@@ -94,15 +94,21 @@ fn fill_and_settle(rt: &impl Abort, journal: &mut Journal)
     fill(rt, journal);
     expect_filled(rt, journal);
     resolve(rt, journal);
-    settle(rt, journal);
+    settle(rt, journal, payments);
     assert!(rt; journal.revision() == 7);
     expect_kinds(rt, journal.entries(), b"jdwttrs".as_slice());
 }
 
 #[test]
 fn journal_is_filled(rt: HostRuntime) -> Result<(), Fail> {
-    let mut journal = Journal::start(rt.alloc(), 2)?;
-    fill_and_settle(&rt, &mut journal);
+    let limits = Limits {
+        trades: 2,
+        users: 1,
+        transfers: 2,
+    };
+    let mut journal = Journal::start(rt.alloc(), limits)?;
+    let payments = vec![in rt.alloc(); Payout { low: 5, high: 6 }]?;
+    fill_and_settle(&rt, &mut journal, payments);
     Ok(())
 }
 

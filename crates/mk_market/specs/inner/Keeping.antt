@@ -14,7 +14,7 @@ use Rattle.mk_engine.specs.Meaning.{Meaning}
 use Rattle.mk_beliefs.specs.Meanings.{weights_of, rows_of}
 use Rattle.mk_assets.specs.declared.assets.Assets.{Assets}
 use Rattle.mk_assets.specs.Holdings.{Owns}
-use Rattle.mk_cash.specs.declared.ledger.Account.{Account}
+use Rattle.mk_cash.specs.Accounts.{LedgerOf}
 use Rattle.mk_quote.specs.declared.quote.Quote.{Quote}
 use Rattle.mk_quote.specs.declared.spread_quote.SpreadQuote.{SpreadQuote}
 use Rattle.mk_quote.specs.Quotes.{user_of, question_of, revision_of, limits_of, bounds_of}
@@ -31,6 +31,7 @@ use Rattle.mk_record.specs.declared.users.Member.{Member}
 use Rattle.mk_record.specs.Journals.{JournalOf}
 use Rattle.mk_record.specs.Members.{names_of, quotes_of, assets_of}
 use Rattle.mk_market.specs.Points.{AreAccounts}
+use Rattle.mk_replay.specs.Tills.{TillOf, room_for}
 
 -- the user and the revision of a quote
 abbrev pub user_in : LastQuote → ℕ
@@ -78,11 +79,17 @@ pub record IsKeptQuote (network : List Variable) (tree : GivenTree) (H : List En
 abbrev pub AreKeptQuotes : List Variable → GivenTree → List Entry → List (Option LastQuote) → Type 0
 AreKeptQuotes network tree H quotes = (u : ℕ) (quote : LastQuote) → slice_get quotes u ≡ Some (Some quote) → IsKeptQuote network tree H u quote
 
+-- a journal takes as many trades, users and transfers as another
+pub record TakesAsMuch (journal new_journal : JournalOf) : Type 0 where
+  pub trades : new_journal.max_trades ≡ journal.max_trades
+  pub users : new_journal.max_users ≡ journal.max_users
+  pub transfers : new_journal.max_transfers ≡ journal.max_transfers
+
 -- the engines, the users and the ledger are as the history leaves them, and the history is safe:
 -- what a store gives back is that also where it isn't sound
 module _ {P A Plan : Type 0} (weights_stand : P → Meaning → Type 0) (gains_stand : A → Meaning → Type 0) (plan_for : Plan → List Variable → GivenTree → Type 0) where
-  pub record IsKept (file : MarketFile) (prices : P) (rows : A) (plan : Plan) (members : List (Member A Plan)) (accounts : List Account) (journal : JournalOf)
-      (payments : Option (List Payment)) : Type 0 where
+  pub record IsKept (file : MarketFile) (prices : P) (rows : A) (plan : Plan) (members : List (Member A Plan)) (ledger : LedgerOf) (journal : JournalOf)
+      (payments : Option (List Payment)) (till : Option TillOf) : Type 0 where
     pub legal : IsNetwork file.net
     pub tree : IsTreeOf file.net file.tree
     pub planned : plan_for plan file.net file.tree
@@ -92,7 +99,11 @@ module _ {P A Plan : Type 0} (weights_stand : P → Meaning → Type 0) (gains_s
     pub owns : (u : ℕ) (assets : Assets A Plan) → slice_get (assets_of members) u ≡ Some assets
         → Owns gains_stand assets (holding_of file.net file.tree journal.history u)
     pub quotes_kept : AreKeptQuotes file.net file.tree journal.history (quotes_of members)
-    pub accounts_kept : AreAccounts (market_of file) journal.history accounts
+    pub accounts_kept : AreAccounts (market_of file) journal.history ledger.accounts
+    pub ledger_room : ledger.room ≡ file.max_users
     pub safe : IsSafe (market_of file) journal.history
     pub max_trades : journal.max_trades ≡ file.max_trades
+    pub max_users : journal.max_users ≡ file.max_users
+    pub max_transfers : journal.max_transfers ≡ file.max_transfers
     pub room : is_settled journal.history ≡ false → payments ≡ Some []
+    pub till_room : is_settled journal.history ≡ false → till ≡ Some (room_for file.max_users)

@@ -1,12 +1,18 @@
 -- What payments leave of a ledger.
-use Rattle.std.specs.Prelude.{◌≡◌, ℕ, ◌+◌, List, length, Some, slice_get}
+use Rattle.std.specs.Prelude.{◌≡◌, ℕ, ◌+◌, ◌<◌, List, length, slice_get}
+use Rattle.mk_exact.specs.History.{or_nothing}
 use Rattle.mk_cash.specs.declared.ledger.Account.{Account}
 use Rattle.mk_cash.specs.Accounts.{account_of}
-use Rattle.mk_reply.specs.declared.payments.Payment.{Payment}
 
--- as many accounts, each with the points of its payment, and with the same points in and out
-pub record ArePaid (old new : List Account) (payments : List Payment) : Type 0 where
+-- an account behind one payment: its low end more was paid, and its high end is known
+pub record IsPaid (old new : Account) (payment : ℕ × ℕ) : Type 0 where
+  pub paid : new.paid ≡ old.paid + payment.0
+  pub high : new.high ≡ payment.1
+  pub paid_in : new.deposited ≡ old.deposited
+  pub taken_out : new.withdrawn ≡ old.withdrawn
+
+-- as many accounts, each behind its payment
+pub record ArePaid (old new : List Account) (paid : List (ℕ × ℕ)) : Type 0 where
   pub count : length new ≡ length old
-  pub paid : (u : ℕ) (payment : Payment) → slice_get payments u ≡ Some payment → (account_of new u).paid ≡ (account_of old u).paid + payment.paid
-  pub paid_in : (u : ℕ) → (account_of new u).deposited ≡ (account_of old u).deposited
-  pub taken_out : (u : ℕ) → (account_of new u).withdrawn ≡ (account_of old u).withdrawn
+  pub each : (u : ℕ) → u < length old
+      → IsPaid (account_of old u) (account_of new u) (or_nothing (slice_get paid u))

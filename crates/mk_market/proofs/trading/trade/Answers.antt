@@ -43,6 +43,13 @@ trade-requires-clause-range g c =
 pub trade-requires-2 : goal.trade-requires-2
 trade-requires-2 g c = c.requires.room
 
+pub returns-clause-limits : goal.returns-clause-limits
+returns-clause-limits g c = record {
+  trades = c.trade-2.ensures.limit;
+  users = c.trade-2.ensures.users;
+  transfers = c.trade-2.ensures.transfers;
+}
+
 pub returns-clause-assets : goal.returns-clause-assets
 returns-clause-assets g c = λ network tree owns.
     let H = c.args.journal.now.history in let ratio = trade_ratio c.args.ratio in

@@ -32,13 +32,13 @@ refuse_stopped-requires g c =
     let spread = spread_in found.request.question in
     let question = question_for i.file i.journal.history c.args.variable.now c.as_slice.result.now c.args.condition.now spread c.as_slice.ensures.value found.ensures.question in
     let none = found.ensures.refusal c.args.condition.now (sym c.as_slice.ensures.value) in
-    can_refuse g.P.Engine.stands_for g.A.Engine.stands_for g.A.Engine.plan_for i.file i.prices i.rows i.plan i.users i.ledger i.journal i.payments c.self.invariant
+    can_refuse g.P.Engine.stands_for g.A.Engine.stands_for g.A.Engine.plan_for i.file i.prices i.rows i.plan i.users i.ledger i.journal i.payments i.till c.self.invariant
     c.fresh_spread_quote.new.prices c.fresh_spread_quote.new.users c.args.name.now
     found.request.user found.ensures.user c.args.variable.now c.args.condition.now spread
     question
     found.request refl found.ensures.home c.as_slice-in-Err.result.now
     c.as_slice-in-Err.ensures.value
-    (bounds_known g.P.Engine.stands_for g.A.Engine.stands_for g.A.Engine.plan_for i.file i.prices i.rows i.plan i.users i.ledger i.journal i.payments c.self.invariant
+    (bounds_known g.P.Engine.stands_for g.A.Engine.stands_for g.A.Engine.plan_for i.file i.prices i.rows i.plan i.users i.ledger i.journal i.payments i.till c.self.invariant
     c.fresh_spread_quote.new.prices c.fresh_spread_quote.new.users c.args.name.now
     found.request.user found.ensures.user c.args.variable.now c.args.condition.now spread
     question none)
@@ -47,8 +47,8 @@ refuse_stopped-requires g c =
 pub invariant_of-self : goal.invariant_of-self
 invariant_of-self g c =
     let i = c.self.inside in
-    refiled _ _ _ _ _ _ _ _ g.P.Engine.stands_for g.A.Engine.stands_for g.A.Engine.plan_for _ _ _ _ _ _ _
-    (kept_beside g.P.Engine.stands_for g.A.Engine.stands_for g.A.Engine.plan_for i.file i.prices i.rows i.plan i.users i.ledger i.journal i.payments c.self.invariant
+    refiled _ _ _ _ _ _ _ _ _ _ _ _ g.P.Engine.stands_for g.A.Engine.stands_for g.A.Engine.plan_for _ _ _ _ _ _ _ _
+    (kept_beside g.P.Engine.stands_for g.A.Engine.stands_for g.A.Engine.plan_for i.file i.prices i.rows i.plan i.users i.ledger i.journal i.payments i.till c.self.invariant
     c.refuse_stopped.new.prices c.fresh_spread_quote.new.users
     (record { prices_beside = λ m stands. c.refuse_stopped.ensures.kept m (c.in-Err.ensures.prices m stands); names_beside = c.in-Err.ensures.names; assets_beside = c.in-Err.ensures.assets })
     c.in-Err.ensures.quotes)
@@ -61,11 +61,11 @@ returns-in-Err g c =
     let H = i.journal.history in
     let question = question_for i.file H c.args.variable.now c.as_slice.result.now c.args.condition.now spread c.as_slice.ensures.value found.ensures.question in
     let none = found.ensures.refusal c.args.condition.now (sym c.as_slice.ensures.value) in
-    let opened = is_open g.P.Engine.stands_for g.A.Engine.stands_for g.A.Engine.plan_for i.file i.prices i.rows i.plan i.users i.ledger i.journal i.payments c.self.invariant in
+    let opened = is_open g.P.Engine.stands_for g.A.Engine.stands_for g.A.Engine.plan_for i.file i.prices i.rows i.plan i.users i.ledger i.journal i.payments i.till c.self.invariant in
     let refused = subst (λ (words : List PairText). IsRefusedFor i.file.net H c.args.variable.now words spread (Decided c.in-Err.why) c.refuse_stopped.result) c.as_slice-in-Err.ensures.value
     (c.refuse_stopped.ensures.refusal i.file.tree H (c.in-Err.ensures.prices _ c.self.invariant.prices_stand) opened c.in-Err.ensures.quote) in
     rw (← c.self.view_is)
-    (decided_answered g.P.Engine.stands_for g.A.Engine.stands_for g.A.Engine.plan_for i.file i.prices i.rows i.plan i.users i.ledger i.journal i.payments c.self.invariant
+    (decided_answered g.P.Engine.stands_for g.A.Engine.stands_for g.A.Engine.plan_for i.file i.prices i.rows i.plan i.users i.ledger i.journal i.payments i.till c.self.invariant
     c.refuse_stopped.new.prices c.fresh_spread_quote.new.users c.args.name.now found.request.user
     found.ensures.user c.args.variable.now c.args.condition.now spread question
     c.in-Err.why c.refuse_stopped.result none c.in-Err.ensures.quote refused c.in-Err.ensures.quotes)
@@ -81,7 +81,7 @@ invariant_of-self-2 g c =
     found.request.user (Bounds quote) c.in-Ok.ensures.names c.in-Ok.ensures.quotes
     c.in-Ok.ensures.assets (in_range i.users (users i.journal.history) found.request.user
     c.self.invariant.named found.ensures.user.within) c.set_quote.ensures in
-    kept_quoted g.P.Engine.stands_for g.A.Engine.stands_for g.A.Engine.plan_for i.file i.prices made.new.prices i.rows i.plan i.users c.set_quote.new.self i.ledger i.journal i.payments
+    kept_quoted g.P.Engine.stands_for g.A.Engine.stands_for g.A.Engine.plan_for i.file i.prices made.new.prices i.rows i.plan i.users c.set_quote.new.self i.ledger i.journal i.payments i.till
     c.self.invariant found.request.user (Bounds quote)
     (kept_quote i.file.net i.file.tree i.journal.history found.request.user _ quote its) are
     c.in-Ok.ensures.prices
@@ -94,7 +94,7 @@ returns g c =
     let quote = c.in-Ok.quote in
     let its = c.in-Ok.ensures.quote in
     let question = question_for i.file i.journal.history c.args.variable.now c.as_slice.result.now c.args.condition.now _ c.as_slice.ensures.value found.ensures.question in
-    let none = bounds_unrefused g.P.Engine.stands_for g.A.Engine.stands_for g.A.Engine.plan_for i.file i.prices i.rows i.plan i.users i.ledger i.journal i.payments c.self.invariant
+    let none = bounds_unrefused g.P.Engine.stands_for g.A.Engine.stands_for g.A.Engine.plan_for i.file i.prices i.rows i.plan i.users i.ledger i.journal i.payments i.till c.self.invariant
     made.new.prices made.new.users c.args.name.now found.request.user found.ensures.user
     c.args.variable.now c.args.condition.now _ question quote its
     (found.ensures.refusal c.args.condition.now (sym c.as_slice.ensures.value)) in
@@ -103,7 +103,7 @@ returns g c =
     c.in-Ok.ensures.assets (in_range i.users (users i.journal.history) found.request.user
     c.self.invariant.named found.ensures.user.within) c.set_quote.ensures in
     rw (← c.self.view_is)
-    (bounds_answered g.P.Engine.stands_for g.A.Engine.stands_for g.A.Engine.plan_for i.file i.prices i.rows i.plan i.users c.set_quote.new.self i.ledger i.journal i.payments
+    (bounds_answered g.P.Engine.stands_for g.A.Engine.stands_for g.A.Engine.plan_for i.file i.prices i.rows i.plan i.users c.set_quote.new.self i.ledger i.journal i.payments i.till
     c.self.invariant c.args.name.now found.request.user found.ensures.user c.args.variable.now
     c.args.condition.now _ question quote its are.quotes
     c.intervals-intervals.result c.revision.result none c.intervals-intervals.ensures.value

@@ -9,36 +9,36 @@ use Rattle.mk_market.proofs.market.Market.deposit.Goals as goal
 pub returns-in_err-user : goal.returns-in_err-user
 returns-in_err-user g c =
     answered_refused _ c.args.self.now _ c.self.view_is (Deposit c.args.name.now c.args.bits) tt c.in_err-user.field-0.0 c.from_residual.result
-    c.from_residual.ensures.1 (c.in_err-user.ensures.deposit (market_of c.self.inside.file))
+    c.from_residual.ensures.1 (c.in_err-user.ensures.deposit (market_of c.self.inside.file) c.self.invariant.max_transfers)
 
 pub deposit-requires : goal.deposit-requires
 deposit-requires g c =
-    can_deposit g.P.Engine.stands_for g.A.Engine.stands_for g.A.Engine.plan_for _ _ _ _ _ _ _ _ c.self.invariant c.args.name.now c.in_ok-user.user c.args.bits
+    can_deposit g.P.Engine.stands_for g.A.Engine.stands_for g.A.Engine.plan_for _ _ _ _ _ _ _ _ _ c.self.invariant c.args.name.now c.in_ok-user.user c.args.bits
     c.in_ok-user.ensures.user c.in_ok-user.ensures.room c.assets.result.now c.assets.ensures.value
 
 pub deposit-requires-2-clause-fits : goal.deposit-requires-2-clause-fits
 deposit-requires-2-clause-fits g c =
-    points_fit g.P.Engine.stands_for g.A.Engine.stands_for g.A.Engine.plan_for _ _ _ _ _ _ _ _ c.self.invariant c.args.name.now c.in_ok-user.user c.args.bits
+    points_fit g.P.Engine.stands_for g.A.Engine.stands_for g.A.Engine.plan_for _ _ _ _ _ _ _ _ _ c.self.invariant c.args.name.now c.in_ok-user.user c.args.bits
     c.in_ok-user.ensures.user c.in_ok-user.ensures.room
 
 pub invariant_of-self : goal.invariant_of-self
 invariant_of-self g c =
-    deposit_kept g.P.Engine.stands_for g.A.Engine.stands_for g.A.Engine.plan_for _ _ _ _ _ _ _ _ c.self.invariant c.args.name.now c.in_ok-user.user c.args.bits
+    deposit_kept g.P.Engine.stands_for g.A.Engine.stands_for g.A.Engine.plan_for _ _ _ _ _ _ _ _ _ c.self.invariant c.args.name.now c.in_ok-user.user c.args.bits
     c.in_ok-user.ensures.user c.in_ok-user.ensures.room c.assets.result.now c.deposit.new.self c.assets.ensures.value c.deposit-2.new.self c.deposit-3.new.self
-    c.deposit-3.ensures.history (c.in_ok-user.ensures.deposit (market_of c.self.inside.file)) c.deposit-3.ensures.limit c.deposit.ensures c.deposit-2.ensures
+    c.deposit-3.ensures.history (c.in_ok-user.ensures.deposit (market_of c.self.inside.file) c.self.invariant.max_transfers) (record { trades = c.deposit-3.ensures.limit; users = c.deposit-3.ensures.users; transfers = c.deposit-3.ensures.transfers }) c.deposit.ensures c.deposit-2.ensures
 
 pub returns : goal.returns
 returns g c =
     rw (← c.self.view_is) (record {
       market = refl;
-      allowed = λ sound. deposit_allowed g.P.Engine.stands_for g.A.Engine.stands_for g.A.Engine.plan_for _ _ _ _ _ _ _ _ c.self.invariant c.args.name.now c.in_ok-user.user c.args.bits
+      allowed = λ sound. deposit_allowed g.P.Engine.stands_for g.A.Engine.stands_for g.A.Engine.plan_for _ _ _ _ _ _ _ _ _ c.self.invariant c.args.name.now c.in_ok-user.user c.args.bits
           c.in_ok-user.ensures.user c.in_ok-user.ensures.room c.assets.result.now c.deposit.new.self c.assets.ensures.value c.deposit-2.new.self c.deposit-3.new.self
-          c.deposit-3.ensures.history (c.in_ok-user.ensures.deposit (market_of c.self.inside.file)) c.revision.result c.revision.ensures;
-      next = deposit_next g.P.Engine.stands_for g.A.Engine.stands_for g.A.Engine.plan_for _ _ _ _ _ _ _ _ c.self.invariant c.args.name.now c.in_ok-user.user c.args.bits
+          c.deposit-3.ensures.history (c.in_ok-user.ensures.deposit (market_of c.self.inside.file) c.self.invariant.max_transfers) c.revision.result c.revision.ensures;
+      next = deposit_next g.P.Engine.stands_for g.A.Engine.stands_for g.A.Engine.plan_for _ _ _ _ _ _ _ _ _ c.self.invariant c.args.name.now c.in_ok-user.user c.args.bits
           c.in_ok-user.ensures.user c.in_ok-user.ensures.room c.assets.result.now c.deposit.new.self c.assets.ensures.value c.deposit-2.new.self c.deposit-3.new.self
-          c.deposit-3.ensures.history (c.in_ok-user.ensures.deposit (market_of c.self.inside.file)) c.revision.result;
+          c.deposit-3.ensures.history (c.in_ok-user.ensures.deposit (market_of c.self.inside.file) c.self.invariant.max_transfers) c.revision.result;
       paid = deposit_paid g.P.Engine.stands_for g.A.Engine.stands_for g.A.Engine.plan_for _ _ _ _ _
-          _ _ _ c.self.invariant c.args.name.now c.in_ok-user.user c.args.bits
+          _ _ _ _ c.self.invariant c.args.name.now c.in_ok-user.user c.args.bits
           c.in_ok-user.ensures.user c.in_ok-user.ensures.room c.deposit-2.new.self
           c.deposit-2.ensures c.revision.result;
     })

@@ -33,7 +33,7 @@ pub invariant_of-self : goal.invariant_of-self
 invariant_of-self g c =
     let i = c.self.inside in
     let made = c.present_quote in
-    kept_unquoted g.P.Engine.stands_for g.A.Engine.stands_for g.A.Engine.plan_for i.file i.prices c.refuse_decided.new.prices i.rows i.plan i.users made.new.users i.ledger i.journal i.payments
+    kept_unquoted g.P.Engine.stands_for g.A.Engine.stands_for g.A.Engine.plan_for i.file i.prices c.refuse_decided.new.prices i.rows i.plan i.users made.new.users i.ledger i.journal i.payments i.till
     c.self.invariant (λ m stands. c.refuse_decided.ensures.kept m (made.ensures.prices m stands)) made.ensures.names made.ensures.quotes made.ensures.assets
 
 pub returns-in-Err : goal.returns-in-Err
@@ -46,7 +46,7 @@ returns-in-Err g c =
     c.args.name.now c.args.question.now c.args.to c.args.at c.refuse_decided.result
     found.ensures.refusal
     (c.refuse_decided.ensures.refusal i.file.net i.file.tree i.journal.history (made.ensures.prices (weights_of i.file.net i.file.tree i.journal.history) c.self.invariant.prices_stand)
-    (is_open g.P.Engine.stands_for g.A.Engine.stands_for g.A.Engine.plan_for i.file i.prices i.rows i.plan i.users i.ledger i.journal i.payments c.self.invariant)
+    (is_open g.P.Engine.stands_for g.A.Engine.stands_for g.A.Engine.plan_for i.file i.prices i.rows i.plan i.users i.ledger i.journal i.payments i.till c.self.invariant)
     (record { named = found.ensures.question.named; known = edit_known i.file i.journal.history c.args.name.now c.args.question.now c.args.to c.args.at found.ensures.refusal }) c.in-Err.ensures.quote))
 
 pub invariant_of-self-in_default : goal.invariant_of-self-in_default
@@ -59,7 +59,7 @@ invariant_of-self-in_default g c =
     found.request.user (Limits ok.quote) made.ensures.names made.ensures.quotes
     made.ensures.assets (in_range i.users (users i.journal.history) found.request.user
     c.self.invariant.named found.ensures.user.within) c.set_quote.ensures in
-    kept_quoted g.P.Engine.stands_for g.A.Engine.stands_for g.A.Engine.plan_for i.file i.prices made.new.prices i.rows i.plan i.users c.set_quote.new.self i.ledger i.journal i.payments
+    kept_quoted g.P.Engine.stands_for g.A.Engine.stands_for g.A.Engine.plan_for i.file i.prices made.new.prices i.rows i.plan i.users c.set_quote.new.self i.ledger i.journal i.payments i.till
     c.self.invariant found.request.user (Limits ok.quote)
     (kept_quote i.file.net i.file.tree i.journal.history found.request.user
     found.request.question ok.quote ok.ensures.quote) are made.ensures.prices
@@ -81,7 +81,7 @@ returns-in_default g c =
     made.ensures.assets (in_range i.users (users i.journal.history) found.request.user
     c.self.invariant.named found.ensures.user.within) c.set_quote.ensures in
     rw (← c.self.view_is)
-    (beyond_answered g.P.Engine.stands_for g.A.Engine.stands_for g.A.Engine.plan_for i.file i.prices i.rows i.plan i.users c.set_quote.new.self i.ledger i.journal i.payments
+    (beyond_answered g.P.Engine.stands_for g.A.Engine.stands_for g.A.Engine.plan_for i.file i.prices i.rows i.plan i.users c.set_quote.new.self i.ledger i.journal i.payments i.till
     c.self.invariant c.args.name.now found.request.user found.ensures.user c.args.question.now
     found.request.question found.ensures.question ok.quote ok.ensures.quote are
     c.args.to c.args.at c.limits.result none c.limits.ensures.value c.limits.ensures.right c.in_default.ensures.inside last)
@@ -98,7 +98,7 @@ ratio_of_edit-ratio-requires-clause-hit g c =
     found.request.question ok.quote ok.ensures.quote) found.ensures.refusal in
     let last = last_is i.users found.request.user found.request.question
     (revision i.journal.history) made.result ok.quote ok.is made.ensures.last in
-    hit_units i.file i.journal (is_open g.P.Engine.stands_for g.A.Engine.stands_for g.A.Engine.plan_for i.file i.prices i.rows i.plan i.users i.ledger i.journal i.payments c.self.invariant)
+    hit_units i.file i.journal (is_open g.P.Engine.stands_for g.A.Engine.stands_for g.A.Engine.plan_for i.file i.prices i.rows i.plan i.users i.ledger i.journal i.payments i.till c.self.invariant)
     c.args.name.now found.request.user found.ensures.user c.args.question.now found.request.question
     found.ensures.question ok.quote ok.ensures.quote c.args.to (c.in-Some.units.0)
     (c.in-Some.units.1)
@@ -116,7 +116,7 @@ ratio_of_edit-ratio-requires-clause-miss g c =
     found.request.question ok.quote ok.ensures.quote) found.ensures.refusal in
     let last = last_is i.users found.request.user found.request.question
     (revision i.journal.history) made.result ok.quote ok.is made.ensures.last in
-    miss_units i.file i.journal (is_open g.P.Engine.stands_for g.A.Engine.stands_for g.A.Engine.plan_for i.file i.prices i.rows i.plan i.users i.ledger i.journal i.payments c.self.invariant)
+    miss_units i.file i.journal (is_open g.P.Engine.stands_for g.A.Engine.stands_for g.A.Engine.plan_for i.file i.prices i.rows i.plan i.users i.ledger i.journal i.payments i.till c.self.invariant)
     c.args.name.now found.request.user found.ensures.user c.args.question.now found.request.question
     found.ensures.question ok.quote ok.ensures.quote c.args.to (c.in-Some.units.0)
     (c.in-Some.units.1)
@@ -135,7 +135,7 @@ trade-requires g c =
     let last = last_is i.users found.request.user found.request.question
     (revision i.journal.history) made.result ok.quote ok.is made.ensures.last in
     let units = c.in-Some.units in
-    let opened = is_open g.P.Engine.stands_for g.A.Engine.stands_for g.A.Engine.plan_for i.file i.prices i.rows i.plan i.users i.ledger i.journal i.payments c.self.invariant in
+    let opened = is_open g.P.Engine.stands_for g.A.Engine.stands_for g.A.Engine.plan_for i.file i.prices i.rows i.plan i.users i.ledger i.journal i.payments i.till c.self.invariant in
     let hit = hit_units i.file i.journal opened c.args.name.now found.request.user
     found.ensures.user c.args.question.now found.request.question found.ensures.question
     ok.quote ok.ensures.quote
@@ -148,7 +148,7 @@ trade-requires g c =
     made.new.users i.journal found.request.user found.request.home r)
     (sym c.ratio_of_edit-ratio.ensures)
     (can_be_made g.P.Engine.stands_for g.A.Engine.stands_for g.A.Engine.plan_for i.file i.prices
-    i.rows i.plan i.users i.ledger i.journal i.payments c.self.invariant found.request.user
+    i.rows i.plan i.users i.ledger i.journal i.payments i.till c.self.invariant found.request.user
     found.ensures.user.within
     (ratio_in i.file.net found.request.question (units.0) (units.1)) made.new.prices made.new.users
     made.ensures.prices made.ensures.assets made.ensures.names
@@ -170,11 +170,11 @@ invariant_of-self-2 g c =
     let last = last_is i.users found.request.user found.request.question
     (revision i.journal.history) made.result ok.quote ok.is made.ensures.last in
     let ratio = c.ratio_of_edit-ratio in
-    let opened = is_open g.P.Engine.stands_for g.A.Engine.stands_for g.A.Engine.plan_for i.file i.prices i.rows i.plan i.users i.ledger i.journal i.payments c.self.invariant in
+    let opened = is_open g.P.Engine.stands_for g.A.Engine.stands_for g.A.Engine.plan_for i.file i.prices i.rows i.plan i.users i.ledger i.journal i.payments i.till c.self.invariant in
     let history = c.trade.ensures.history ∙ ap
     (λ (r : TradeRatio). i.journal.history ++ Trade found.request.user r ∷ []) ratio.ensures in
     trade_kept g.P.Engine.stands_for g.A.Engine.stands_for g.A.Engine.plan_for i.file i.prices
-    i.rows i.plan i.users i.ledger i.journal i.payments c.self.invariant found.request.user
+    i.rows i.plan i.users i.ledger i.journal i.payments i.till c.self.invariant found.request.user
     found.ensures.user.within
     (trade_ratio ratio.result) (Edit c.args.name.now c.args.question.now c.args.to c.args.at) (Traded (c.in-Some.units.0) (c.in-Some.units.1) c.revision.result) tt tt
     (trade_has_units i.file i.journal opened c.args.name.now found.request.user found.ensures.user
@@ -192,7 +192,7 @@ invariant_of-self-2 g c =
     c.args.to (c.in-Some.units.0) (c.in-Some.units.1) c.in-Some.ensures.fair i.users c.trade.new.users c.trade.new.journal c.args.at none c.in-Some.ensures.inside last
     history (c.trade.ensures.quotes ∙ made.ensures.quotes) c.revision.result c.revision.ensures)
     c.trade.ensures.history (c.trade.ensures.quotes ∙ made.ensures.quotes)
-    c.trade.new.prices c.trade.ensures.limit (λ m stands. c.trade.ensures.prices m (made.ensures.prices m stands)) (c.trade.ensures.names ∙ made.ensures.names)
+    c.trade.new.prices c.trade.ensures.limits (λ m stands. c.trade.ensures.prices m (made.ensures.prices m stands)) (c.trade.ensures.names ∙ made.ensures.names)
     (c.trade.ensures.assets i.file.net i.file.tree (λ u. made.ensures.assets u _ (c.self.invariant.owns u)))
 
 pub returns : goal.returns
@@ -207,7 +207,7 @@ returns g c =
     found.request.question ok.quote ok.ensures.quote) found.ensures.refusal in
     let last = last_is i.users found.request.user found.request.question
     (revision i.journal.history) made.result ok.quote ok.is made.ensures.last in
-    let opened = is_open g.P.Engine.stands_for g.A.Engine.stands_for g.A.Engine.plan_for i.file i.prices i.rows i.plan i.users i.ledger i.journal i.payments c.self.invariant in
+    let opened = is_open g.P.Engine.stands_for g.A.Engine.stands_for g.A.Engine.plan_for i.file i.prices i.rows i.plan i.users i.ledger i.journal i.payments i.till c.self.invariant in
     rw (← c.self.view_is)
     (trade_answered i.file i.journal opened c.args.name.now found.request.user found.ensures.user
     c.args.question.now found.request.question found.ensures.question ok.quote ok.ensures.quote

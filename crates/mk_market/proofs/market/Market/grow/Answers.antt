@@ -24,19 +24,19 @@ pub invariant_of-self : goal.invariant_of-self
 invariant_of-self g c =
     let i = c.self.inside in
     kept_regrown g.P.Engine.stands_for g.A.Engine.stands_for g.A.Engine.plan_for i.file i.prices
-    i.rows i.plan i.users i.ledger i.journal i.payments c.self.invariant c.args.add.now
+    i.rows i.plan i.users i.ledger i.journal i.payments i.till c.self.invariant c.args.add.now
     c.requires.text
     (subst (λ (t : Trading). first_refusal t.market t.standing.history (Add c.args.add.now) ≡ None)
     (sym c.self.view_is) c.requires.unrefused)
     c.in_ok-parts.parts c.in_ok-parts.ensures c.renew.new.self c.renew.ensures.names
     c.renew.ensures.assets c.renew.ensures.quotes c.add.new.self c.add.ensures.history
-    c.add.ensures.limit
+    (record { trades = c.add.ensures.limit; users = c.add.ensures.users; transfers = c.add.ensures.transfers })
 
 pub returns-clause-ok : goal.returns-clause-ok
 returns-clause-ok g c =
     let i = c.self.inside in
     has_grown g.P.Engine.stands_for g.A.Engine.stands_for g.A.Engine.plan_for i.file i.prices
-    i.rows i.plan i.users i.ledger i.journal i.payments c.self.invariant c.args.add.now
+    i.rows i.plan i.users i.ledger i.journal i.payments i.till c.self.invariant c.args.add.now
     c.requires.text
     (subst (λ (t : Trading). first_refusal t.market t.standing.history (Add c.args.add.now) ≡ None)
     (sym c.self.view_is) c.requires.unrefused)

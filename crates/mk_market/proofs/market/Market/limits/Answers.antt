@@ -24,7 +24,7 @@ pub invariant_of-self : goal.invariant_of-self
 invariant_of-self g c =
     let i = c.self.inside in
     let made = c.fresh_quote in
-    kept_unquoted g.P.Engine.stands_for g.A.Engine.stands_for g.A.Engine.plan_for i.file i.prices c.refuse_decided.new.prices i.rows i.plan i.users made.new.users i.ledger i.journal i.payments
+    kept_unquoted g.P.Engine.stands_for g.A.Engine.stands_for g.A.Engine.plan_for i.file i.prices c.refuse_decided.new.prices i.rows i.plan i.users made.new.users i.ledger i.journal i.payments i.till
     c.self.invariant (λ m stands. c.refuse_decided.ensures.kept m (made.ensures.prices m stands)) made.ensures.names made.ensures.quotes made.ensures.assets
 
 pub returns-in-Err : goal.returns-in-Err
@@ -36,7 +36,7 @@ returns-in-Err g c =
     (limits_stopped i.file i.ledger i.journal i.users made.new.users made.ensures.quotes
     c.args.name.now c.args.question.now c.refuse_decided.result found.ensures.refusal
     (c.refuse_decided.ensures.refusal i.file.net i.file.tree i.journal.history (made.ensures.prices (weights_of i.file.net i.file.tree i.journal.history) c.self.invariant.prices_stand)
-    (is_open g.P.Engine.stands_for g.A.Engine.stands_for g.A.Engine.plan_for i.file i.prices i.rows i.plan i.users i.ledger i.journal i.payments c.self.invariant)
+    (is_open g.P.Engine.stands_for g.A.Engine.stands_for g.A.Engine.plan_for i.file i.prices i.rows i.plan i.users i.ledger i.journal i.payments i.till c.self.invariant)
     (record { named = found.ensures.question.named; known = limits_known i.file i.journal.history c.args.name.now c.args.question.now found.ensures.refusal }) c.in-Err.ensures.quote))
 
 pub invariant_of-self-2 : goal.invariant_of-self-2
@@ -49,7 +49,7 @@ invariant_of-self-2 g c =
     found.request.user (Limits ok.quote) made.ensures.names made.ensures.quotes
     made.ensures.assets (in_range i.users (users i.journal.history) found.request.user
     c.self.invariant.named found.ensures.user.within) c.set_quote.ensures in
-    kept_quoted g.P.Engine.stands_for g.A.Engine.stands_for g.A.Engine.plan_for i.file i.prices made.new.prices i.rows i.plan i.users c.set_quote.new.self i.ledger i.journal i.payments
+    kept_quoted g.P.Engine.stands_for g.A.Engine.stands_for g.A.Engine.plan_for i.file i.prices made.new.prices i.rows i.plan i.users c.set_quote.new.self i.ledger i.journal i.payments i.till
     c.self.invariant found.request.user (Limits ok.quote)
     (kept_quote i.file.net i.file.tree i.journal.history found.request.user
     found.request.question ok.quote ok.ensures.quote) are made.ensures.prices
@@ -69,7 +69,7 @@ returns g c =
     made.ensures.assets (in_range i.users (users i.journal.history) found.request.user
     c.self.invariant.named found.ensures.user.within) c.set_quote.ensures in
     rw (← c.self.view_is)
-    (limits_answered g.P.Engine.stands_for g.A.Engine.stands_for g.A.Engine.plan_for i.file i.prices i.rows i.plan i.users c.set_quote.new.self i.ledger i.journal i.payments
+    (limits_answered g.P.Engine.stands_for g.A.Engine.stands_for g.A.Engine.plan_for i.file i.prices i.rows i.plan i.users c.set_quote.new.self i.ledger i.journal i.payments i.till
     c.self.invariant c.args.name.now found.request.user found.ensures.user c.args.question.now
     found.request.question found.ensures.question ok.quote ok.ensures.quote are
     c.limits.result c.revision.result none c.limits.ensures.value c.limits.ensures.right c.revision.ensures)

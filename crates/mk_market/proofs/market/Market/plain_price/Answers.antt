@@ -16,7 +16,7 @@ price_of-requires g c =
       history = i.journal.history;
       stands = c.self.invariant.prices_stand;
       is_open = is_open g.P.Engine.stands_for g.A.Engine.stands_for g.A.Engine.plan_for i.file
-          i.prices i.rows i.plan i.users i.ledger i.journal i.payments c.self.invariant;
+          i.prices i.rows i.plan i.users i.ledger i.journal i.payments i.till c.self.invariant;
       answered = found.ensures.question.answered;
       held = home_is_held i.file.tree found.home (pairs_asked found.asked) found.ensures.home;
     }
@@ -28,9 +28,9 @@ returns-clause-priced g c =
     on_some _ c.price_of.result (λ low high is.
     rw (← c.self.view_is) (record {
       market = refl;
-      allowed = λ sound. price_allowed g.P.Engine.stands_for g.A.Engine.stands_for g.A.Engine.plan_for _ _ _ _ _ _ _ _ c.self.invariant c.args.question.now found.asked found.ensures.question
+      allowed = λ sound. price_allowed g.P.Engine.stands_for g.A.Engine.stands_for g.A.Engine.plan_for _ _ _ _ _ _ _ _ _ c.self.invariant c.args.question.now found.asked found.ensures.question
           low high (sym found.ensures.refusal)
           (λ tree H stands open_for answered. subst (λ (o : Option (ℕ × ℕ)). IsPriceFor i.file.net H found.asked o) is (c.price_of.ensures.price tree H stands open_for answered));
-      next = price_next g.P.Engine.stands_for g.A.Engine.stands_for g.A.Engine.plan_for _ _ _ _ _ _ _ _ c.self.invariant c.args.question.now low high;
+      next = price_next g.P.Engine.stands_for g.A.Engine.stands_for g.A.Engine.plan_for _ _ _ _ _ _ _ _ _ c.self.invariant c.args.question.now low high;
       paid = λ u. refl;
     }))

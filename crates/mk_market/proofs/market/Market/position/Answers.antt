@@ -35,7 +35,7 @@ position_of-requires-clause-assets g c =
       user = found.request.user;
       owns = c.self.invariant.owns found.request.user c.assets.result.now c.assets.ensures.value;
       is_open = is_open g.P.Engine.stands_for g.A.Engine.stands_for g.A.Engine.plan_for i.file
-          i.prices i.rows i.plan i.users i.ledger i.journal i.payments c.self.invariant;
+          i.prices i.rows i.plan i.users i.ledger i.journal i.payments i.till c.self.invariant;
       answered = found.ensures.question.answered;
       held = λ value. value_is_held i.file.tree found.request.home
           (spread_in found.request.question) value found.ensures.home;
@@ -44,10 +44,10 @@ position_of-requires-clause-assets g c =
 pub invariant_of-self : goal.invariant_of-self
 invariant_of-self g c =
     let i = c.self.inside in let found = c.in_ok-request in
-    refiled _ _ _ _ _ _ _ _ g.P.Engine.stands_for g.A.Engine.stands_for g.A.Engine.plan_for _ _ _ _
-    _ _ _
+    refiled _ _ _ _ _ _ _ _ _ _ _ _ g.P.Engine.stands_for g.A.Engine.stands_for g.A.Engine.plan_for _ _ _ _
+    _ _ _ _
     (position_kept g.P.Engine.stands_for g.A.Engine.stands_for g.A.Engine.plan_for i.file i.prices
-    i.rows i.plan i.users i.ledger i.journal i.payments c.self.invariant i.prices
+    i.rows i.plan i.users i.ledger i.journal i.payments i.till c.self.invariant i.prices
     (λ m stands. stands) found.request.user
     c.assets.result.now c.position_of.new.assets c.assets.ensures.value
     c.position_of.ensures.kept_assets)
@@ -56,7 +56,7 @@ pub refuse_condition-requires : goal.refuse_condition-requires
 refuse_condition-requires g c =
     let i = c.self.inside in let found = c.in_ok-request in let H = i.journal.history in
     let opened = is_open g.P.Engine.stands_for g.A.Engine.stands_for g.A.Engine.plan_for i.file
-    i.prices i.rows i.plan i.users i.ledger i.journal i.payments c.self.invariant in
+    i.prices i.rows i.plan i.users i.ledger i.journal i.payments i.till c.self.invariant in
     let command = Position c.args.name.now c.args.variable.now c.args.condition.now in
     let none = found.ensures.refusal c.args.condition.now (sym c.as_slice-words.ensures.value) in
     let known = (none_applies (refusals_by_record (market_of i.file) H command) (sym none)).1.1.1.0
@@ -75,10 +75,10 @@ refuse_condition-requires g c =
 pub invariant_of-self-in-None : goal.invariant_of-self-in-None
 invariant_of-self-in-None g c =
     let i = c.self.inside in let found = c.in_ok-request in
-    refiled _ _ _ _ _ _ _ _ g.P.Engine.stands_for g.A.Engine.stands_for g.A.Engine.plan_for _ _ _ _
-    _ _ _
+    refiled _ _ _ _ _ _ _ _ _ _ _ _ g.P.Engine.stands_for g.A.Engine.stands_for g.A.Engine.plan_for _ _ _ _
+    _ _ _ _
     (position_kept g.P.Engine.stands_for g.A.Engine.stands_for g.A.Engine.plan_for i.file i.prices
-    i.rows i.plan i.users i.ledger i.journal i.payments c.self.invariant
+    i.rows i.plan i.users i.ledger i.journal i.payments i.till c.self.invariant
     c.refuse_condition.new.prices c.refuse_condition.ensures.kept found.request.user
     c.assets.result.now c.position_of.new.assets c.assets.ensures.value
     c.position_of.ensures.kept_assets)
@@ -87,7 +87,7 @@ pub returns-in-Some : goal.returns-in-Some
 returns-in-Some g c =
     let i = c.self.inside in let found = c.in_ok-request in let H = i.journal.history in
     let opened = is_open g.P.Engine.stands_for g.A.Engine.stands_for g.A.Engine.plan_for i.file
-    i.prices i.rows i.plan i.users i.ledger i.journal i.payments c.self.invariant in
+    i.prices i.rows i.plan i.users i.ledger i.journal i.payments i.till c.self.invariant in
     let spread = spread_in found.request.question in
     let command = Position c.args.name.now c.args.variable.now c.args.condition.now in
     let question = question_for i.file H c.args.variable.now c.as_slice-words.result.now
@@ -112,7 +112,7 @@ pub returns-in-None : goal.returns-in-None
 returns-in-None g c =
     let i = c.self.inside in let found = c.in_ok-request in let H = i.journal.history in
     let opened = is_open g.P.Engine.stands_for g.A.Engine.stands_for g.A.Engine.plan_for i.file
-    i.prices i.rows i.plan i.users i.ledger i.journal i.payments c.self.invariant in
+    i.prices i.rows i.plan i.users i.ledger i.journal i.payments i.till c.self.invariant in
     let spread = spread_in found.request.question in
     let command = Position c.args.name.now c.args.variable.now c.args.condition.now in
     let question = question_for i.file H c.args.variable.now c.as_slice-words.result.now

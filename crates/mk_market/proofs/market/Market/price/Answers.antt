@@ -25,7 +25,7 @@ price_of-requires g c =
       history = i.journal.history;
       stands = c.self.invariant.prices_stand;
       is_open = is_open g.P.Engine.stands_for g.A.Engine.stands_for g.A.Engine.plan_for i.file
-          i.prices i.rows i.plan i.users i.ledger i.journal i.payments c.self.invariant;
+          i.prices i.rows i.plan i.users i.ledger i.journal i.payments i.till c.self.invariant;
       answered = found.ensures.question.answered;
       held = home_is_held i.file.tree found.home (pairs_asked found.asked) found.ensures.home;
     }
@@ -34,7 +34,7 @@ pub refuse_condition-requires : goal.refuse_condition-requires
 refuse_condition-requires g c =
     let i = c.self.inside in
     let found = c.in_ok-asked in
-    let opened = is_open g.P.Engine.stands_for g.A.Engine.stands_for g.A.Engine.plan_for i.file i.prices i.rows i.plan i.users i.ledger i.journal i.payments c.self.invariant in
+    let opened = is_open g.P.Engine.stands_for g.A.Engine.stands_for g.A.Engine.plan_for i.file i.prices i.rows i.plan i.users i.ledger i.journal i.payments i.till c.self.invariant in
     let price = c.in-None.ensures.price i.file.tree i.journal.history c.self.invariant.prices_stand opened found.ensures.question.answered in
     can_refuse_condition g.P.Engine.stands_for c.price_of.new.prices i.file.net i.file.tree i.journal.history
     (c.price_of.ensures.kept (weights_of i.file.net i.file.tree i.journal.history) c.self.invariant.prices_stand) opened c.args.question.now found.asked
@@ -46,9 +46,9 @@ pub returns-in-Some : goal.returns-in-Some
 returns-in-Some g c =
     rw (← c.self.view_is) (record {
       market = refl;
-      allowed = λ sound. price_allowed g.P.Engine.stands_for g.A.Engine.stands_for g.A.Engine.plan_for _ _ _ _ _ _ _ _ c.self.invariant c.args.question.now c.in_ok-asked.asked c.in_ok-asked.ensures.question
+      allowed = λ sound. price_allowed g.P.Engine.stands_for g.A.Engine.stands_for g.A.Engine.plan_for _ _ _ _ _ _ _ _ _ c.self.invariant c.args.question.now c.in_ok-asked.asked c.in_ok-asked.ensures.question
           (c.in-Some.price.0) (c.in-Some.price.1) c.in_ok-asked.ensures.refusal c.in-Some.ensures.price;
-      next = price_next g.P.Engine.stands_for g.A.Engine.stands_for g.A.Engine.plan_for _ _ _ _ _ _ _ _ c.self.invariant c.args.question.now (c.in-Some.price.0) (c.in-Some.price.1);
+      next = price_next g.P.Engine.stands_for g.A.Engine.stands_for g.A.Engine.plan_for _ _ _ _ _ _ _ _ _ c.self.invariant c.args.question.now (c.in-Some.price.0) (c.in-Some.price.1);
       paid = λ u. refl;
     })
 
@@ -56,7 +56,7 @@ pub returns-in-None : goal.returns-in-None
 returns-in-None g c =
     let i = c.self.inside in
     let found = c.in_ok-asked in
-    let opened = is_open g.P.Engine.stands_for g.A.Engine.stands_for g.A.Engine.plan_for i.file i.prices i.rows i.plan i.users i.ledger i.journal i.payments c.self.invariant in
+    let opened = is_open g.P.Engine.stands_for g.A.Engine.stands_for g.A.Engine.plan_for i.file i.prices i.rows i.plan i.users i.ledger i.journal i.payments i.till c.self.invariant in
     let price = c.in-None.ensures.price i.file.tree i.journal.history c.self.invariant.prices_stand opened found.ensures.question.answered in
     rw (← c.self.view_is) (price_stopped i.file i.ledger i.journal i.users i.users refl
     c.args.question.now c.refuse_condition.result found.ensures.refusal

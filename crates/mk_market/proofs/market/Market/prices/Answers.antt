@@ -32,7 +32,7 @@ prices_of-requires g c =
       history = i.journal.history;
       stands = c.self.invariant.prices_stand;
       is_open = is_open g.P.Engine.stands_for g.A.Engine.stands_for g.A.Engine.plan_for i.file
-          i.prices i.rows i.plan i.users i.ledger i.journal i.payments c.self.invariant;
+          i.prices i.rows i.plan i.users i.ledger i.journal i.payments i.till c.self.invariant;
       answered = found.ensures.question.answered;
       held = λ value. value_is_held i.file.tree found.home (spread_in found.asked) value
           found.ensures.home;
@@ -42,7 +42,7 @@ pub refuse_condition-requires : goal.refuse_condition-requires
 refuse_condition-requires g c =
     let i = c.self.inside in let found = c.in_ok-asked in let H = i.journal.history in
     let opened = is_open g.P.Engine.stands_for g.A.Engine.stands_for g.A.Engine.plan_for i.file
-    i.prices i.rows i.plan i.users i.ledger i.journal i.payments c.self.invariant in
+    i.prices i.rows i.plan i.users i.ledger i.journal i.payments i.till c.self.invariant in
     let command = Prices c.args.variable.now c.args.condition.now in
     let none = found.ensures.refusal c.args.condition.now (sym c.as_slice-words.ensures.value) in
     let known = (none_applies (refusals_by_record (market_of i.file) H command) (sym none)).1.1.0 in
@@ -61,7 +61,7 @@ pub returns-in-Some : goal.returns-in-Some
 returns-in-Some g c =
     let i = c.self.inside in let found = c.in_ok-asked in let H = i.journal.history in
     let opened = is_open g.P.Engine.stands_for g.A.Engine.stands_for g.A.Engine.plan_for i.file
-    i.prices i.rows i.plan i.users i.ledger i.journal i.payments c.self.invariant in
+    i.prices i.rows i.plan i.users i.ledger i.journal i.payments i.till c.self.invariant in
     let spread = spread_in found.asked in let command = Prices c.args.variable.now
     c.args.condition.now in
     let question = question_for i.file H c.args.variable.now c.as_slice-words.result.now
@@ -83,7 +83,7 @@ pub returns-in-None : goal.returns-in-None
 returns-in-None g c =
     let i = c.self.inside in let found = c.in_ok-asked in let H = i.journal.history in
     let opened = is_open g.P.Engine.stands_for g.A.Engine.stands_for g.A.Engine.plan_for i.file
-    i.prices i.rows i.plan i.users i.ledger i.journal i.payments c.self.invariant in
+    i.prices i.rows i.plan i.users i.ledger i.journal i.payments i.till c.self.invariant in
     let spread = spread_in found.asked in let command = Prices c.args.variable.now
     c.args.condition.now in
     let question = question_for i.file H c.args.variable.now c.as_slice-words.result.now

@@ -15,11 +15,11 @@ use Rattle.mk_market.proofs.market.Market.resolve.Goals as goal
 
 pub home_of-home-requires : goal.home_of-home-requires
 home_of-home-requires g c = has_home g.P.Engine.stands_for g.A.Engine.stands_for g.A.Engine.plan_for
-    _ _ _ _ _ _ _ _ c.self.invariant c.args.words.now c.in_ok-pair.pair
+    _ _ _ _ _ _ _ _ _ c.self.invariant c.args.words.now c.in_ok-pair.pair
     c.in_ok-pair.ensures.named c.in_ok-pair.ensures.pair
 
 pub can_come-requires : goal.can_come-requires
-can_come-requires g c = can_ask g.P.Engine.stands_for g.A.Engine.stands_for g.A.Engine.plan_for _ _ _ _ _ _ _ _ c.self.invariant c.args.words.now c.in_ok-pair.pair
+can_come-requires g c = can_ask g.P.Engine.stands_for g.A.Engine.stands_for g.A.Engine.plan_for _ _ _ _ _ _ _ _ _ c.self.invariant c.args.words.now c.in_ok-pair.pair
     c.in_ok-pair.ensures.named c.in_ok-pair.ensures.pair c.home_of-home.result
     c.home_of-home.ensures
 
@@ -39,37 +39,37 @@ know-requires-2-clause-home g c =
     c.self.invariant.rows_stand c.home_of-home.ensures
 
 pub tell-requires : goal.tell-requires
-tell-requires g c = can_be_told g.P.Engine.stands_for g.A.Engine.stands_for g.A.Engine.plan_for _ _ _ _ _ _ _ _ c.self.invariant c.args.words.now c.in_ok-pair.pair
+tell-requires g c = can_be_told g.P.Engine.stands_for g.A.Engine.stands_for g.A.Engine.plan_for _ _ _ _ _ _ _ _ _ c.self.invariant c.args.words.now c.in_ok-pair.pair
     c.in_ok-pair.ensures.named c.in_ok-pair.ensures.pair c.home_of-home.result
     c.home_of-home.ensures
 
 pub resolve-requires : goal.resolve-requires
-resolve-requires g c = few_known g.P.Engine.stands_for g.A.Engine.stands_for g.A.Engine.plan_for _ _ _ _ _ _ _ _ c.self.invariant c.args.words.now c.in_ok-pair.pair
+resolve-requires g c = few_known g.P.Engine.stands_for g.A.Engine.stands_for g.A.Engine.plan_for _ _ _ _ _ _ _ _ _ c.self.invariant c.args.words.now c.in_ok-pair.pair
     c.in_ok-pair.ensures.named c.in_ok-pair.ensures.pair
-    (unrefused_where g.P.Engine.stands_for g.A.Engine.stands_for g.A.Engine.plan_for _ _ _ _ _ _ _ _ c.self.invariant c.args.words.now c.in_ok-pair.pair
+    (unrefused_where g.P.Engine.stands_for g.A.Engine.stands_for g.A.Engine.plan_for _ _ _ _ _ _ _ _ _ c.self.invariant c.args.words.now c.in_ok-pair.pair
     c.in_ok-pair.ensures.named c.in_ok-pair.ensures.pair c.in_ok-pair.ensures.refusal c.can_come.result c.can_come.ensures.found c.if-not-can_come.false)
 
 pub invariant_of-self : goal.invariant_of-self
 invariant_of-self g c =
-    refiled _ _ _ _ _ _ _ _ g.P.Engine.stands_for g.A.Engine.stands_for g.A.Engine.plan_for _ _ _ _ _ _ _
-    (asked_kept g.P.Engine.stands_for g.A.Engine.stands_for g.A.Engine.plan_for _ _ _ _ _ _ _ _ c.self.invariant c.args.words.now c.in_ok-pair.pair
+    refiled _ _ _ _ _ _ _ _ _ _ _ _ g.P.Engine.stands_for g.A.Engine.stands_for g.A.Engine.plan_for _ _ _ _ _ _ _ _
+    (asked_kept g.P.Engine.stands_for g.A.Engine.stands_for g.A.Engine.plan_for _ _ _ _ _ _ _ _ _ c.self.invariant c.args.words.now c.in_ok-pair.pair
     c.in_ok-pair.ensures.named c.in_ok-pair.ensures.pair c.can_come.new.prices c.can_come.ensures.kept)
 
 pub invariant_of-self-2 : goal.invariant_of-self-2
 invariant_of-self-2 g c =
-    refiled _ _ _ _ _ _ _ _ g.P.Engine.stands_for g.A.Engine.stands_for g.A.Engine.plan_for _ _ _ _ _ _ _
-    (resolution_kept g.P.Engine.stands_for g.A.Engine.stands_for g.A.Engine.plan_for _ _ _ _ _ _ _ _ c.self.invariant c.args.words.now c.in_ok-pair.pair
+    refiled _ _ _ _ _ _ _ _ _ _ _ _ g.P.Engine.stands_for g.A.Engine.stands_for g.A.Engine.plan_for _ _ _ _ _ _ _ _
+    (resolution_kept g.P.Engine.stands_for g.A.Engine.stands_for g.A.Engine.plan_for _ _ _ _ _ _ _ _ _ c.self.invariant c.args.words.now c.in_ok-pair.pair
     c.in_ok-pair.ensures.named c.in_ok-pair.ensures.pair
-    (unrefused_where g.P.Engine.stands_for g.A.Engine.stands_for g.A.Engine.plan_for _ _ _ _ _ _ _ _ c.self.invariant c.args.words.now c.in_ok-pair.pair
+    (unrefused_where g.P.Engine.stands_for g.A.Engine.stands_for g.A.Engine.plan_for _ _ _ _ _ _ _ _ _ c.self.invariant c.args.words.now c.in_ok-pair.pair
     c.in_ok-pair.ensures.named c.in_ok-pair.ensures.pair c.in_ok-pair.ensures.refusal c.can_come.result c.can_come.ensures.found c.if-not-can_come.false)
-    c.know.new.self c.know-2.new.self c.tell.new.users c.resolve.new.self c.resolve.ensures.history c.resolve.ensures.limit
+    c.know.new.self c.know-2.new.self c.tell.new.users c.resolve.new.self c.resolve.ensures.history (record { trades = c.resolve.ensures.limit; users = c.resolve.ensures.users; transfers = c.resolve.ensures.transfers })
     (λ (m : Meaning) stands. c.know.ensures m (c.can_come.ensures.kept m stands)) c.know-2.ensures c.tell.ensures.assets c.tell.ensures.names c.tell.ensures.quotes)
 
 pub returns-then-not-can_come : goal.returns-then-not-can_come
 returns-then-not-can_come g c =
     rw (← c.self.view_is) (record {
       market = refl;
-      allowed = λ sound. never_answered g.P.Engine.stands_for g.A.Engine.stands_for g.A.Engine.plan_for _ _ _ _ _ _ _ _ c.self.invariant c.args.words.now c.in_ok-pair.pair
+      allowed = λ sound. never_answered g.P.Engine.stands_for g.A.Engine.stands_for g.A.Engine.plan_for _ _ _ _ _ _ _ _ _ c.self.invariant c.args.words.now c.in_ok-pair.pair
           c.in_ok-pair.ensures.named c.in_ok-pair.ensures.pair c.in_ok-pair.ensures.refusal c.can_come.result c.can_come.ensures.found c.if-not-can_come.true;
       next = refused_stays (market_of c.self.inside.file) (standing_of c.self.inside.journal c.self.inside.users) (Resolve c.args.words.now) (Impossible c.args.words.now) tt;
       paid = λ u. refl;
@@ -81,14 +81,14 @@ returns g c =
       market = nothing_added (market_of c.self.inside.file)
           (standing_of c.self.inside.journal c.self.inside.users) (Resolve c.args.words.now)
           (Resolved c.args.words.now c.revision.result) tt;
-      allowed = λ sound. resolution_allowed g.P.Engine.stands_for g.A.Engine.stands_for g.A.Engine.plan_for _ _ _ _ _ _ _ _ c.self.invariant c.args.words.now c.in_ok-pair.pair
+      allowed = λ sound. resolution_allowed g.P.Engine.stands_for g.A.Engine.stands_for g.A.Engine.plan_for _ _ _ _ _ _ _ _ _ c.self.invariant c.args.words.now c.in_ok-pair.pair
           c.in_ok-pair.ensures.named c.in_ok-pair.ensures.pair
-          (unrefused_where g.P.Engine.stands_for g.A.Engine.stands_for g.A.Engine.plan_for _ _ _ _ _ _ _ _ c.self.invariant c.args.words.now c.in_ok-pair.pair
+          (unrefused_where g.P.Engine.stands_for g.A.Engine.stands_for g.A.Engine.plan_for _ _ _ _ _ _ _ _ _ c.self.invariant c.args.words.now c.in_ok-pair.pair
           c.in_ok-pair.ensures.named c.in_ok-pair.ensures.pair c.in_ok-pair.ensures.refusal c.can_come.result c.can_come.ensures.found c.if-not-can_come.false)
           c.resolve.new.self c.resolve.ensures.history c.revision.result c.revision.ensures;
-      next = resolution_next g.P.Engine.stands_for g.A.Engine.stands_for g.A.Engine.plan_for _ _ _ _ _ _ _ _ c.self.invariant c.args.words.now c.in_ok-pair.pair
+      next = resolution_next g.P.Engine.stands_for g.A.Engine.stands_for g.A.Engine.plan_for _ _ _ _ _ _ _ _ _ c.self.invariant c.args.words.now c.in_ok-pair.pair
           c.in_ok-pair.ensures.named c.in_ok-pair.ensures.pair
-          (unrefused_where g.P.Engine.stands_for g.A.Engine.stands_for g.A.Engine.plan_for _ _ _ _ _ _ _ _ c.self.invariant c.args.words.now c.in_ok-pair.pair
+          (unrefused_where g.P.Engine.stands_for g.A.Engine.stands_for g.A.Engine.plan_for _ _ _ _ _ _ _ _ _ c.self.invariant c.args.words.now c.in_ok-pair.pair
           c.in_ok-pair.ensures.named c.in_ok-pair.ensures.pair c.in_ok-pair.ensures.refusal c.can_come.result c.can_come.ensures.found c.if-not-can_come.false)
           c.tell.new.users c.resolve.new.self c.resolve.ensures.history c.tell.ensures.quotes c.revision.result;
       paid = λ u. refl;

@@ -20,28 +20,28 @@ returns-in_err-user g c =
     rw (← c.self.view_is) (tried_unfit _ _ (Deposit c.args.name.now c.args.bits) c.args.reply.now
     c.from_residual.result c.from_residual.ensures.1
     (left_by_refusal _ (Deposit c.args.name.now c.args.bits) c.args.reply.now
-    c.in_err-user.field-0.0 (c.in_err-user.ensures.deposit (market_of c.self.inside.file))))
+    c.in_err-user.field-0.0 (c.in_err-user.ensures.deposit (market_of c.self.inside.file) c.self.invariant.max_transfers)))
 
 pub deposit-requires : goal.deposit-requires
 deposit-requires g c =
-    can_deposit g.P.Engine.stands_for g.A.Engine.stands_for g.A.Engine.plan_for _ _ _ _ _ _ _ _
+    can_deposit g.P.Engine.stands_for g.A.Engine.stands_for g.A.Engine.plan_for _ _ _ _ _ _ _ _ _
     c.self.invariant c.args.name.now c.in_ok-user.user c.args.bits
     c.in_ok-user.ensures.user c.in_ok-user.ensures.room c.assets.result.now c.assets.ensures.value
 
 pub deposit-requires-2-clause-fits : goal.deposit-requires-2-clause-fits
 deposit-requires-2-clause-fits g c =
-    points_fit g.P.Engine.stands_for g.A.Engine.stands_for g.A.Engine.plan_for _ _ _ _ _ _ _ _
+    points_fit g.P.Engine.stands_for g.A.Engine.stands_for g.A.Engine.plan_for _ _ _ _ _ _ _ _ _
     c.self.invariant c.args.name.now c.in_ok-user.user c.args.bits
     c.in_ok-user.ensures.user c.in_ok-user.ensures.room
 
 pub invariant_of-self : goal.invariant_of-self
 invariant_of-self g c =
-    deposit_kept g.P.Engine.stands_for g.A.Engine.stands_for g.A.Engine.plan_for _ _ _ _ _ _ _ _
+    deposit_kept g.P.Engine.stands_for g.A.Engine.stands_for g.A.Engine.plan_for _ _ _ _ _ _ _ _ _
     c.self.invariant c.args.name.now c.in_ok-user.user c.args.bits
     c.in_ok-user.ensures.user c.in_ok-user.ensures.room c.assets.result.now c.deposit.new.self
     c.assets.ensures.value c.deposit-2.new.self c.deposit-3.new.self
-    c.deposit-3.ensures.history (c.in_ok-user.ensures.deposit (market_of c.self.inside.file))
-    c.deposit-3.ensures.limit c.deposit.ensures c.deposit-2.ensures
+    c.deposit-3.ensures.history (c.in_ok-user.ensures.deposit (market_of c.self.inside.file) c.self.invariant.max_transfers)
+    (record { trades = c.deposit-3.ensures.limit; users = c.deposit-3.ensures.users; transfers = c.deposit-3.ensures.transfers }) c.deposit.ensures c.deposit-2.ensures
 
 pub returns : goal.returns
 returns g c =
@@ -49,14 +49,14 @@ returns g c =
     rw (← c.self.view_is) (taken_back _ _ (Deposit c.args.name.now c.args.bits) c.args.reply.now
     (Deposited c.args.name.now c.args.bits (revision H + 1))
     (c.tells_deposit.ensures.0 c.if-not-tells_deposit.false) refl
-    (c.in_ok-user.ensures.deposit (market_of c.self.inside.file)) refl
-    (deposit_next g.P.Engine.stands_for g.A.Engine.stands_for g.A.Engine.plan_for _ _ _ _ _ _ _ _
+    (c.in_ok-user.ensures.deposit (market_of c.self.inside.file) c.self.invariant.max_transfers) refl
+    (deposit_next g.P.Engine.stands_for g.A.Engine.stands_for g.A.Engine.plan_for _ _ _ _ _ _ _ _ _
     c.self.invariant c.args.name.now c.in_ok-user.user c.args.bits
     c.in_ok-user.ensures.user c.in_ok-user.ensures.room c.assets.result.now c.deposit.new.self
     c.assets.ensures.value c.deposit-2.new.self c.deposit-3.new.self
-    c.deposit-3.ensures.history (c.in_ok-user.ensures.deposit (market_of c.self.inside.file))
+    c.deposit-3.ensures.history (c.in_ok-user.ensures.deposit (market_of c.self.inside.file) c.self.invariant.max_transfers)
     (revision H + 1))
     (deposit_paid g.P.Engine.stands_for g.A.Engine.stands_for g.A.Engine.plan_for _ _ _ _ _
-    _ _ _ c.self.invariant c.args.name.now c.in_ok-user.user c.args.bits
+    _ _ _ _ c.self.invariant c.args.name.now c.in_ok-user.user c.args.bits
     c.in_ok-user.ensures.user c.in_ok-user.ensures.room c.deposit-2.new.self
     c.deposit-2.ensures (revision H + 1)))

@@ -43,7 +43,7 @@ trade-requires g c =
     i.users i.journal found.request.user found.request.home r)
     (sym c.ratio_of_edit-ratio.ensures)
     (can_be_made g.P.Engine.stands_for g.A.Engine.stands_for g.A.Engine.plan_for i.file i.prices
-    i.rows i.plan i.users i.ledger i.journal i.payments c.self.invariant found.request.user
+    i.rows i.plan i.users i.ledger i.journal i.payments i.till c.self.invariant found.request.user
     found.ensures.user.within
     (ratio_in i.file.net found.request.question (units.0) (units.1)) i.prices i.users
     (λ m stands. stands) (λ u h owns. owns) refl
@@ -63,7 +63,7 @@ invariant_of-self g c =
     let history = c.trade.ensures.history ∙ ap
     (λ (r : TradeRatio). i.journal.history ++ Trade found.request.user r ∷ []) ratio.ensures in
     trade_kept g.P.Engine.stands_for g.A.Engine.stands_for g.A.Engine.plan_for i.file i.prices
-    i.rows i.plan i.users i.ledger i.journal i.payments c.self.invariant found.request.user
+    i.rows i.plan i.users i.ledger i.journal i.payments i.till c.self.invariant found.request.user
     found.ensures.user.within (trade_ratio ratio.result)
     (Edit c.args.name.now wish.question.now wish.to wish.at) c.args.reply.now tt tt
     (edit_units i.file i.journal c.args.name.now found.request.user found.ensures.user
@@ -81,7 +81,7 @@ invariant_of-self g c =
     found.ensures.refusal (units.0) (units.1) c.args.reply.now told i.users c.trade.new.users
     c.trade.new.journal history c.trade.ensures.quotes)
     c.trade.ensures.history c.trade.ensures.quotes
-    c.trade.new.prices c.trade.ensures.limit c.trade.ensures.prices c.trade.ensures.names
+    c.trade.new.prices c.trade.ensures.limits c.trade.ensures.prices c.trade.ensures.names
     (c.trade.ensures.assets i.file.net i.file.tree c.self.invariant.owns)
 
 pub returns : goal.returns
@@ -106,5 +106,5 @@ returns g c =
           c.trade.new.journal history c.trade.ensures.quotes;
       paid = edit_paid i.file i.journal c.args.name.now found.request.user found.ensures.user
           wish.question.now found.request.question found.ensures.question wish.to wish.at
-          found.ensures.refusal (units.0) (units.1) c.args.reply.now told i.ledger;
+          found.ensures.refusal (units.0) (units.1) c.args.reply.now told i.ledger.accounts;
     })

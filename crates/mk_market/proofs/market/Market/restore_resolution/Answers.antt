@@ -31,12 +31,12 @@ returns-in_err-pair g c =
 
 pub home_of-home-requires : goal.home_of-home-requires
 home_of-home-requires g c = has_home g.P.Engine.stands_for g.A.Engine.stands_for g.A.Engine.plan_for
-    _ _ _ _ _ _ _ _ c.self.invariant c.args.words.now c.in_ok-pair.pair
+    _ _ _ _ _ _ _ _ _ c.self.invariant c.args.words.now c.in_ok-pair.pair
     c.in_ok-pair.ensures.named c.in_ok-pair.ensures.pair
 
 pub can_come-requires : goal.can_come-requires
 can_come-requires g c = can_ask g.P.Engine.stands_for g.A.Engine.stands_for g.A.Engine.plan_for _ _
-    _ _ _ _ _ _ c.self.invariant c.args.words.now c.in_ok-pair.pair
+    _ _ _ _ _ _ _ c.self.invariant c.args.words.now c.in_ok-pair.pair
     c.in_ok-pair.ensures.named c.in_ok-pair.ensures.pair c.home_of-home.result
     c.home_of-home.ensures
 
@@ -57,41 +57,41 @@ know-requires-2-clause-home g c =
 
 pub tell-requires : goal.tell-requires
 tell-requires g c = can_be_told g.P.Engine.stands_for g.A.Engine.stands_for g.A.Engine.plan_for _ _
-    _ _ _ _ _ _ c.self.invariant c.args.words.now c.in_ok-pair.pair
+    _ _ _ _ _ _ _ c.self.invariant c.args.words.now c.in_ok-pair.pair
     c.in_ok-pair.ensures.named c.in_ok-pair.ensures.pair c.home_of-home.result
     c.home_of-home.ensures
 
 pub resolve-requires : goal.resolve-requires
 resolve-requires g c = few_known g.P.Engine.stands_for g.A.Engine.stands_for g.A.Engine.plan_for _
-    _ _ _ _ _ _ _ c.self.invariant c.args.words.now c.in_ok-pair.pair
+    _ _ _ _ _ _ _ _ c.self.invariant c.args.words.now c.in_ok-pair.pair
     c.in_ok-pair.ensures.named c.in_ok-pair.ensures.pair
     (unrefused_where g.P.Engine.stands_for g.A.Engine.stands_for g.A.Engine.plan_for _ _ _ _ _ _ _
-    _ c.self.invariant c.args.words.now c.in_ok-pair.pair
+    _ _ c.self.invariant c.args.words.now c.in_ok-pair.pair
     c.in_ok-pair.ensures.named c.in_ok-pair.ensures.pair c.in_ok-pair.ensures.refusal
     c.can_come.result c.can_come.ensures.found c.if-not-can_come.false)
 
 pub invariant_of-self : goal.invariant_of-self
 invariant_of-self g c =
-    refiled _ _ _ _ _ _ _ _ g.P.Engine.stands_for g.A.Engine.stands_for g.A.Engine.plan_for _ _ _ _
-    _ _ _
-    (asked_kept g.P.Engine.stands_for g.A.Engine.stands_for g.A.Engine.plan_for _ _ _ _ _ _ _ _
+    refiled _ _ _ _ _ _ _ _ _ _ _ _ g.P.Engine.stands_for g.A.Engine.stands_for g.A.Engine.plan_for _ _ _ _
+    _ _ _ _
+    (asked_kept g.P.Engine.stands_for g.A.Engine.stands_for g.A.Engine.plan_for _ _ _ _ _ _ _ _ _
     c.self.invariant c.args.words.now c.in_ok-pair.pair
     c.in_ok-pair.ensures.named c.in_ok-pair.ensures.pair c.can_come.new.prices
     c.can_come.ensures.kept)
 
 pub invariant_of-self-2 : goal.invariant_of-self-2
 invariant_of-self-2 g c =
-    refiled _ _ _ _ _ _ _ _ g.P.Engine.stands_for g.A.Engine.stands_for g.A.Engine.plan_for _ _ _ _
-    _ _ _
+    refiled _ _ _ _ _ _ _ _ _ _ _ _ g.P.Engine.stands_for g.A.Engine.stands_for g.A.Engine.plan_for _ _ _ _
+    _ _ _ _
     (resolution_kept g.P.Engine.stands_for g.A.Engine.stands_for g.A.Engine.plan_for _ _ _ _ _ _ _
-    _ c.self.invariant c.args.words.now c.in_ok-pair.pair
+    _ _ c.self.invariant c.args.words.now c.in_ok-pair.pair
     c.in_ok-pair.ensures.named c.in_ok-pair.ensures.pair
     (unrefused_where g.P.Engine.stands_for g.A.Engine.stands_for g.A.Engine.plan_for _ _ _ _ _ _ _
-    _ c.self.invariant c.args.words.now c.in_ok-pair.pair
+    _ _ c.self.invariant c.args.words.now c.in_ok-pair.pair
     c.in_ok-pair.ensures.named c.in_ok-pair.ensures.pair c.in_ok-pair.ensures.refusal
     c.can_come.result c.can_come.ensures.found c.if-not-can_come.false)
     c.know.new.self c.know-2.new.self c.tell.new.users c.resolve.new.self c.resolve.ensures.history
-    c.resolve.ensures.limit
+    (record { trades = c.resolve.ensures.limit; users = c.resolve.ensures.users; transfers = c.resolve.ensures.transfers })
     (λ (m : Meaning) stands. c.know.ensures m (c.can_come.ensures.kept m stands)) c.know-2.ensures
     c.tell.ensures.assets c.tell.ensures.names c.tell.ensures.quotes)
 
@@ -99,7 +99,7 @@ pub returns-then-not-can_come : goal.returns-then-not-can_come
 returns-then-not-can_come g c =
     rw (← c.self.view_is) (left_by_refusal _ (Resolve c.args.words.now) c.args.reply.now
     (Impossible c.args.words.now)
-    (never_refused g.P.Engine.stands_for g.A.Engine.stands_for g.A.Engine.plan_for _ _ _ _ _ _ _ _
+    (never_refused g.P.Engine.stands_for g.A.Engine.stands_for g.A.Engine.plan_for _ _ _ _ _ _ _ _ _
     c.self.invariant c.args.words.now c.in_ok-pair.pair
     c.in_ok-pair.ensures.named c.in_ok-pair.ensures.pair c.in_ok-pair.ensures.refusal
     c.can_come.result c.can_come.ensures.found c.if-not-can_come.true))
@@ -108,7 +108,7 @@ pub returns : goal.returns
 returns g c =
     let H = c.self.inside.journal.history in
     let none = unrefused_where g.P.Engine.stands_for g.A.Engine.stands_for g.A.Engine.plan_for _ _
-    _ _ _ _ _ _ c.self.invariant c.args.words.now c.in_ok-pair.pair
+    _ _ _ _ _ _ _ c.self.invariant c.args.words.now c.in_ok-pair.pair
     c.in_ok-pair.ensures.named c.in_ok-pair.ensures.pair c.in_ok-pair.ensures.refusal
     c.can_come.result c.can_come.ensures.found c.if-not-can_come.false in
     rw (← c.self.view_is) (taken_back _ _ (Resolve c.args.words.now) c.args.reply.now
@@ -119,7 +119,7 @@ returns g c =
     (Resolved c.args.words.now (revision H + 1)) tt)
     none refl
     (resolution_next g.P.Engine.stands_for g.A.Engine.stands_for g.A.Engine.plan_for _ _ _ _ _ _ _
-    _ c.self.invariant c.args.words.now c.in_ok-pair.pair
+    _ _ c.self.invariant c.args.words.now c.in_ok-pair.pair
     c.in_ok-pair.ensures.named c.in_ok-pair.ensures.pair none
     c.tell.new.users c.resolve.new.self c.resolve.ensures.history c.tell.ensures.quotes
     (revision H + 1))

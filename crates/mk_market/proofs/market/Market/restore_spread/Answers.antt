@@ -30,7 +30,7 @@ trade-requires g c =
     subst (λ (r : TradeRatio). CanBeMade g.P.Engine.stands_for g.A.Engine.stands_for i.prices
     i.users i.journal found.request.user found.request.home r) (sym same)
     (can_be_made g.P.Engine.stands_for g.A.Engine.stands_for g.A.Engine.plan_for i.file i.prices
-    i.rows i.plan i.users i.ledger i.journal i.payments c.self.invariant found.request.user
+    i.rows i.plan i.users i.ledger i.journal i.payments i.till c.self.invariant found.request.user
     found.ensures.user.within (spread_ratio spread factors.items) i.prices i.users
     (λ m stands. stands) (λ u h owns. owns) refl
     (spread_ratio_fits i.file i.journal c.args.name.now found.request.user found.ensures.user
@@ -54,7 +54,7 @@ invariant_of-self g c =
     let history = c.trade.ensures.history ∙ ap
     (λ (r : TradeRatio). i.journal.history ++ Trade found.request.user r ∷ []) same in
     trade_kept g.P.Engine.stands_for g.A.Engine.stands_for g.A.Engine.plan_for i.file i.prices
-    i.rows i.plan i.users i.ledger i.journal i.payments c.self.invariant found.request.user
+    i.rows i.plan i.users i.ledger i.journal i.payments i.till c.self.invariant found.request.user
     found.ensures.user.within (trade_ratio c.ratio_of_spread-ratio.result)
     (Spread c.args.name.now wish.variable.now condition to wish.at) c.args.reply.now tt tt
     (spread_units i.file i.journal c.args.name.now found.request.user found.ensures.user
@@ -72,5 +72,5 @@ invariant_of-self g c =
     c.args.reply.now told c.in-Some.ensures.one_each
     i.users c.trade.new.users c.trade.new.journal history c.trade.ensures.quotes)
     c.trade.ensures.history c.trade.ensures.quotes
-    c.trade.new.prices c.trade.ensures.limit c.trade.ensures.prices c.trade.ensures.names
+    c.trade.new.prices c.trade.ensures.limits c.trade.ensures.prices c.trade.ensures.names
     (c.trade.ensures.assets i.file.net i.file.tree c.self.invariant.owns)

@@ -21,28 +21,28 @@ returns-in_err-user g c =
     rw (← c.self.view_is) (tried_unfit _ _ (Withdraw c.args.name.now c.args.bits) c.args.reply.now
     c.from_residual.result c.from_residual.ensures.1
     (left_by_refusal _ (Withdraw c.args.name.now c.args.bits) c.args.reply.now
-    c.in_err-user.field-0.0 (c.in_err-user.ensures.withdrawal (market_of c.self.inside.file))))
+    c.in_err-user.field-0.0 (c.in_err-user.ensures.withdrawal (market_of c.self.inside.file) c.self.invariant.max_transfers)))
 
 pub withdraw-requires : goal.withdraw-requires
 withdraw-requires g c = can_withdraw g.P.Engine.stands_for g.A.Engine.stands_for
-    g.A.Engine.plan_for _ _ _ _ _ _ _ _ c.self.invariant c.args.name.now c.in_ok-user.user
+    g.A.Engine.plan_for _ _ _ _ _ _ _ _ _ c.self.invariant c.args.name.now c.in_ok-user.user
     c.args.bits c.in_ok-user.ensures.user c.in_ok-user.ensures.room
     c.assets.result.now c.assets.result.now c.assets.ensures.value (λ (h : Holding) owns. owns)
 
 pub withdraw-requires-2-clause-fits : goal.withdraw-requires-2-clause-fits
 withdraw-requires-2-clause-fits g c = points_fit g.P.Engine.stands_for g.A.Engine.stands_for
-    g.A.Engine.plan_for _ _ _ _ _ _ _ _ c.self.invariant c.args.name.now c.in_ok-user.user
+    g.A.Engine.plan_for _ _ _ _ _ _ _ _ _ c.self.invariant c.args.name.now c.in_ok-user.user
     c.args.bits c.in_ok-user.ensures.user c.in_ok-user.ensures.room
 
 pub invariant_of-self : goal.invariant_of-self
 invariant_of-self g c =
-    withdrawal_kept g.P.Engine.stands_for g.A.Engine.stands_for g.A.Engine.plan_for _ _ _ _ _ _ _ _
+    withdrawal_kept g.P.Engine.stands_for g.A.Engine.stands_for g.A.Engine.plan_for _ _ _ _ _ _ _ _ _
     c.self.invariant c.args.name.now c.in_ok-user.user c.args.bits c.in_ok-user.ensures.user
     c.in_ok-user.ensures.room
     c.assets.result.now c.assets.result.now c.assets.ensures.value (λ (h : Holding) owns. owns)
-    (c.in_ok-user.ensures.withdrawal (market_of c.self.inside.file))
+    (c.in_ok-user.ensures.withdrawal (market_of c.self.inside.file) c.self.invariant.max_transfers)
     c.withdraw.new.self c.withdraw-2.new.self c.withdraw-3.new.self c.withdraw-3.ensures.history
-    c.withdraw-3.ensures.limit c.withdraw.ensures c.withdraw-2.ensures
+    (record { trades = c.withdraw-3.ensures.limit; users = c.withdraw-3.ensures.users; transfers = c.withdraw-3.ensures.transfers }) c.withdraw.ensures c.withdraw-2.ensures
 
 pub returns : goal.returns
 returns g c =
@@ -50,15 +50,15 @@ returns g c =
     rw (← c.self.view_is) (taken_back _ _ (Withdraw c.args.name.now c.args.bits) c.args.reply.now
     (Withdrawn c.args.name.now c.args.bits (revision H + 1))
     (c.tells_withdrawal.ensures.0 c.if-not-tells_withdrawal.false) refl
-    (c.in_ok-user.ensures.withdrawal (market_of c.self.inside.file)) refl
+    (c.in_ok-user.ensures.withdrawal (market_of c.self.inside.file) c.self.invariant.max_transfers) refl
     (withdrawal_next g.P.Engine.stands_for g.A.Engine.stands_for g.A.Engine.plan_for _ _ _ _ _ _ _
-    _ c.self.invariant c.args.name.now c.in_ok-user.user c.args.bits c.in_ok-user.ensures.user
+    _ _ c.self.invariant c.args.name.now c.in_ok-user.user c.args.bits c.in_ok-user.ensures.user
     c.in_ok-user.ensures.room
     c.assets.result.now c.assets.result.now c.assets.ensures.value (λ (h : Holding) owns. owns)
-    (c.in_ok-user.ensures.withdrawal (market_of c.self.inside.file))
+    (c.in_ok-user.ensures.withdrawal (market_of c.self.inside.file) c.self.invariant.max_transfers)
     c.withdraw.new.self c.withdraw-2.new.self c.withdraw-3.new.self c.withdraw-3.ensures.history
     (revision H + 1))
     (withdrawal_paid g.P.Engine.stands_for g.A.Engine.stands_for g.A.Engine.plan_for _ _ _ _
-    _ _ _ _ c.self.invariant c.args.name.now c.in_ok-user.user c.args.bits
+    _ _ _ _ _ c.self.invariant c.args.name.now c.in_ok-user.user c.args.bits
     c.in_ok-user.ensures.user c.in_ok-user.ensures.room
     c.withdraw-2.new.self c.withdraw-2.ensures (revision H + 1)))

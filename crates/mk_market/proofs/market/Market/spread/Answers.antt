@@ -38,7 +38,7 @@ returns-in_err-request g c =
 pub judge_spread-requires-clause-in_use : goal.judge_spread-requires-clause-in_use
 judge_spread-requires-clause-in_use g c =
     let i = c.self.inside in
-    in_use g.P.Engine.stands_for g.A.Engine.stands_for g.A.Engine.plan_for i.file i.prices i.rows i.plan i.users i.ledger i.journal i.payments c.self.invariant i.prices i.users
+    in_use g.P.Engine.stands_for g.A.Engine.stands_for g.A.Engine.plan_for i.file i.prices i.rows i.plan i.users i.ledger i.journal i.payments i.till c.self.invariant i.prices i.users
     (λ m stands. stands) (λ u h owns. owns)
 
 pub judge_spread-requires-clause-one_each : goal.judge_spread-requires-clause-one_each
@@ -49,7 +49,7 @@ judge_spread-requires-clause-one_each g c =
     let question = question_for i.file i.journal.history c.args.variable.now c.as_slice.result.now c.args.condition.now spread c.as_slice.ensures.value found.ensures.question in
     let none = found.ensures.refusal c.args.condition.now c.args.to.now (sym c.as_slice.ensures.value) (sym c.as_slice-2.ensures.value) in
     subst (λ (Xs : List ℕ). length Xs ≡ slice_index (sizes i.file.net) spread.variable) (sym c.as_slice-3.ensures.value)
-    (one_share_each g.P.Engine.stands_for g.A.Engine.stands_for g.A.Engine.plan_for i.file i.prices i.rows i.plan i.users i.ledger i.journal i.payments c.self.invariant
+    (one_share_each g.P.Engine.stands_for g.A.Engine.stands_for g.A.Engine.plan_for i.file i.prices i.rows i.plan i.users i.ledger i.journal i.payments i.till c.self.invariant
     i.prices i.users c.args.name.now found.request.user found.ensures.user c.args.variable.now
     c.args.condition.now spread question c.args.to.now c.args.at none)
 
@@ -64,18 +64,18 @@ refuse_stopped-requires g c =
     let down = subst (λ (Xs : List ℕ). IsTurnedDown i.file.net i.file.tree i.journal.history
     found.request.user spread (quotes_of i.users) (quotes_of made.new.users) Xs c.in-Err.why)
     c.as_slice-3.ensures.value c.in-Err.ensures.judged in
-    let one_each = one_share_each g.P.Engine.stands_for g.A.Engine.stands_for g.A.Engine.plan_for i.file i.prices i.rows i.plan i.users i.ledger i.journal i.payments c.self.invariant
+    let one_each = one_share_each g.P.Engine.stands_for g.A.Engine.stands_for g.A.Engine.plan_for i.file i.prices i.rows i.plan i.users i.ledger i.journal i.payments i.till c.self.invariant
     made.new.prices made.new.users c.args.name.now found.request.user found.ensures.user
     c.args.variable.now c.args.condition.now spread question c.args.to.now c.args.at none in
     let may = turned_may_stop i.file.net i.file.tree i.journal.history found.request.user spread
     (quotes_of i.users) (quotes_of made.new.users) c.args.to.now.items one_each c.in-Err.why
     down in
-    can_refuse g.P.Engine.stands_for g.A.Engine.stands_for g.A.Engine.plan_for i.file i.prices i.rows i.plan i.users i.ledger i.journal i.payments c.self.invariant
+    can_refuse g.P.Engine.stands_for g.A.Engine.stands_for g.A.Engine.plan_for i.file i.prices i.rows i.plan i.users i.ledger i.journal i.payments i.till c.self.invariant
     made.new.prices made.new.users c.args.name.now found.request.user found.ensures.user
     c.args.variable.now c.args.condition.now spread question
     found.request refl found.ensures.home c.as_slice-in-Err.result.now
     c.as_slice-in-Err.ensures.value
-    (spread_known g.P.Engine.stands_for g.A.Engine.stands_for g.A.Engine.plan_for i.file i.prices i.rows i.plan i.users i.ledger i.journal i.payments c.self.invariant
+    (spread_known g.P.Engine.stands_for g.A.Engine.stands_for g.A.Engine.plan_for i.file i.prices i.rows i.plan i.users i.ledger i.journal i.payments i.till c.self.invariant
     made.new.prices made.new.users c.args.name.now found.request.user found.ensures.user
     c.args.variable.now c.args.condition.now spread question c.args.to.now c.args.at none)
     c.in-Err.ensures.prices c.in-Err.why may
@@ -91,17 +91,17 @@ invariant_of-self g c =
     let down = subst (λ (Xs : List ℕ). IsTurnedDown i.file.net i.file.tree i.journal.history
     found.request.user spread (quotes_of i.users) (quotes_of made.new.users) Xs c.in-Err.why)
     c.as_slice-3.ensures.value c.in-Err.ensures.judged in
-    let one_each = one_share_each g.P.Engine.stands_for g.A.Engine.stands_for g.A.Engine.plan_for i.file i.prices i.rows i.plan i.users i.ledger i.journal i.payments c.self.invariant
+    let one_each = one_share_each g.P.Engine.stands_for g.A.Engine.stands_for g.A.Engine.plan_for i.file i.prices i.rows i.plan i.users i.ledger i.journal i.payments i.till c.self.invariant
     made.new.prices made.new.users c.args.name.now found.request.user found.ensures.user
     c.args.variable.now c.args.condition.now spread question c.args.to.now c.args.at none in
     let may = turned_may_stop i.file.net i.file.tree i.journal.history found.request.user spread
     (quotes_of i.users) (quotes_of made.new.users) c.args.to.now.items one_each c.in-Err.why
     down in
-    let opened = is_open g.P.Engine.stands_for g.A.Engine.stands_for g.A.Engine.plan_for i.file i.prices i.rows i.plan i.users i.ledger i.journal i.payments c.self.invariant in
+    let opened = is_open g.P.Engine.stands_for g.A.Engine.stands_for g.A.Engine.plan_for i.file i.prices i.rows i.plan i.users i.ledger i.journal i.payments i.till c.self.invariant in
     let refused = subst (λ (words : List PairText). IsRefusedFor i.file.net i.journal.history c.args.variable.now words spread c.in-Err.why c.refuse_stopped.result) c.as_slice-in-Err.ensures.value
     (c.refuse_stopped.ensures.refusal i.file.tree i.journal.history (c.in-Err.ensures.prices _ c.self.invariant.prices_stand) opened may) in
-    refiled _ _ _ _ _ _ _ _ g.P.Engine.stands_for g.A.Engine.stands_for g.A.Engine.plan_for _ _ _ _ _ _ _
-    (stopped_kept g.P.Engine.stands_for g.A.Engine.stands_for g.A.Engine.plan_for i.file i.prices i.rows i.plan i.users i.ledger i.journal i.payments c.self.invariant
+    refiled _ _ _ _ _ _ _ _ _ _ _ _ g.P.Engine.stands_for g.A.Engine.stands_for g.A.Engine.plan_for _ _ _ _ _ _ _ _
+    (stopped_kept g.P.Engine.stands_for g.A.Engine.stands_for g.A.Engine.plan_for i.file i.prices i.rows i.plan i.users i.ledger i.journal i.payments i.till c.self.invariant
     c.refuse_stopped.new.prices made.new.users c.args.name.now found.request.user found.ensures.user
     c.args.variable.now c.args.condition.now spread question c.args.to.now c.args.at none
     c.in-Err.why c.refuse_stopped.result down refused
@@ -118,17 +118,17 @@ returns-in-Err g c =
     let down = subst (λ (Xs : List ℕ). IsTurnedDown i.file.net i.file.tree i.journal.history
     found.request.user spread (quotes_of i.users) (quotes_of made.new.users) Xs c.in-Err.why)
     c.as_slice-3.ensures.value c.in-Err.ensures.judged in
-    let one_each = one_share_each g.P.Engine.stands_for g.A.Engine.stands_for g.A.Engine.plan_for i.file i.prices i.rows i.plan i.users i.ledger i.journal i.payments c.self.invariant
+    let one_each = one_share_each g.P.Engine.stands_for g.A.Engine.stands_for g.A.Engine.plan_for i.file i.prices i.rows i.plan i.users i.ledger i.journal i.payments i.till c.self.invariant
     made.new.prices made.new.users c.args.name.now found.request.user found.ensures.user
     c.args.variable.now c.args.condition.now spread question c.args.to.now c.args.at none in
     let may = turned_may_stop i.file.net i.file.tree i.journal.history found.request.user spread
     (quotes_of i.users) (quotes_of made.new.users) c.args.to.now.items one_each c.in-Err.why
     down in
-    let opened = is_open g.P.Engine.stands_for g.A.Engine.stands_for g.A.Engine.plan_for i.file i.prices i.rows i.plan i.users i.ledger i.journal i.payments c.self.invariant in
+    let opened = is_open g.P.Engine.stands_for g.A.Engine.stands_for g.A.Engine.plan_for i.file i.prices i.rows i.plan i.users i.ledger i.journal i.payments i.till c.self.invariant in
     let refused = subst (λ (words : List PairText). IsRefusedFor i.file.net i.journal.history c.args.variable.now words spread c.in-Err.why c.refuse_stopped.result) c.as_slice-in-Err.ensures.value
     (c.refuse_stopped.ensures.refusal i.file.tree i.journal.history (c.in-Err.ensures.prices _ c.self.invariant.prices_stand) opened may) in
     rw (← c.self.view_is)
-    (stopped_answered g.P.Engine.stands_for g.A.Engine.stands_for g.A.Engine.plan_for i.file i.prices i.rows i.plan i.users i.ledger i.journal i.payments c.self.invariant
+    (stopped_answered g.P.Engine.stands_for g.A.Engine.stands_for g.A.Engine.plan_for i.file i.prices i.rows i.plan i.users i.ledger i.journal i.payments i.till c.self.invariant
     c.refuse_stopped.new.prices made.new.users c.args.name.now found.request.user found.ensures.user
     c.args.variable.now c.args.condition.now spread question c.args.to.now c.args.at none
     c.in-Err.why c.refuse_stopped.result down refused)
@@ -140,7 +140,7 @@ ratio_of_spread-ratio-requires-clause-of_values g c =
     let made = c.judge_spread in
     let spread = spread_in found.request.question in
     let question = question_for i.file i.journal.history c.args.variable.now c.as_slice.result.now c.args.condition.now spread c.as_slice.ensures.value found.ensures.question in
-    let opened = is_open g.P.Engine.stands_for g.A.Engine.stands_for g.A.Engine.plan_for i.file i.prices i.rows i.plan i.users i.ledger i.journal i.payments c.self.invariant in
+    let opened = is_open g.P.Engine.stands_for g.A.Engine.stands_for g.A.Engine.plan_for i.file i.prices i.rows i.plan i.users i.ledger i.journal i.payments i.till c.self.invariant in
     let factors = c.in-Ok.factors in
     let judged = subst (λ (Xs : List ℕ). IsTaken i.file.net i.file.tree i.journal.history
     found.request.user spread (quotes_of i.users) (quotes_of made.new.users) Xs factors.items)
@@ -157,7 +157,7 @@ ratio_of_spread-ratio-requires-clause-units g c =
     let made = c.judge_spread in
     let spread = spread_in found.request.question in
     let question = question_for i.file i.journal.history c.args.variable.now c.as_slice.result.now c.args.condition.now spread c.as_slice.ensures.value found.ensures.question in
-    let opened = is_open g.P.Engine.stands_for g.A.Engine.stands_for g.A.Engine.plan_for i.file i.prices i.rows i.plan i.users i.ledger i.journal i.payments c.self.invariant in
+    let opened = is_open g.P.Engine.stands_for g.A.Engine.stands_for g.A.Engine.plan_for i.file i.prices i.rows i.plan i.users i.ledger i.journal i.payments i.till c.self.invariant in
     let factors = c.in-Ok.factors in
     let judged = subst (λ (Xs : List ℕ). IsTaken i.file.net i.file.tree i.journal.history
     found.request.user spread (quotes_of i.users) (quotes_of made.new.users) Xs factors.items)
@@ -174,7 +174,7 @@ trade-requires g c =
     let made = c.judge_spread in
     let spread = spread_in found.request.question in
     let question = question_for i.file i.journal.history c.args.variable.now c.as_slice.result.now c.args.condition.now spread c.as_slice.ensures.value found.ensures.question in
-    let opened = is_open g.P.Engine.stands_for g.A.Engine.stands_for g.A.Engine.plan_for i.file i.prices i.rows i.plan i.users i.ledger i.journal i.payments c.self.invariant in
+    let opened = is_open g.P.Engine.stands_for g.A.Engine.stands_for g.A.Engine.plan_for i.file i.prices i.rows i.plan i.users i.ledger i.journal i.payments i.till c.self.invariant in
     let factors = c.in-Ok.factors in
     let judged = subst (λ (Xs : List ℕ). IsTaken i.file.net i.file.tree i.journal.history
     found.request.user spread (quotes_of i.users) (quotes_of made.new.users) Xs factors.items)
@@ -183,7 +183,7 @@ trade-requires g c =
     subst (λ (r : TradeRatio). CanBeMade g.P.Engine.stands_for g.A.Engine.stands_for made.new.prices
     made.new.users i.journal found.request.user found.request.home r) (sym same)
     (can_be_made g.P.Engine.stands_for g.A.Engine.stands_for g.A.Engine.plan_for i.file i.prices
-    i.rows i.plan i.users i.ledger i.journal i.payments c.self.invariant found.request.user
+    i.rows i.plan i.users i.ledger i.journal i.payments i.till c.self.invariant found.request.user
     found.ensures.user.within
     (spread_ratio spread factors.items) made.new.prices made.new.users c.in-Ok.ensures.prices c.in-Ok.ensures.assets c.in-Ok.ensures.names
     (ratio_is i.file i.journal opened c.args.name.now found.request.user found.ensures.user
@@ -198,12 +198,12 @@ invariant_of-self-2 g c =
     let made = c.judge_spread in
     let spread = spread_in found.request.question in
     let question = question_for i.file i.journal.history c.args.variable.now c.as_slice.result.now c.args.condition.now spread c.as_slice.ensures.value found.ensures.question in
-    let opened = is_open g.P.Engine.stands_for g.A.Engine.stands_for g.A.Engine.plan_for i.file i.prices i.rows i.plan i.users i.ledger i.journal i.payments c.self.invariant in
+    let opened = is_open g.P.Engine.stands_for g.A.Engine.stands_for g.A.Engine.plan_for i.file i.prices i.rows i.plan i.users i.ledger i.journal i.payments i.till c.self.invariant in
     let factors = c.in-Ok.factors in
     let judged = subst (λ (Xs : List ℕ). IsTaken i.file.net i.file.tree i.journal.history
     found.request.user spread (quotes_of i.users) (quotes_of made.new.users) Xs factors.items)
     c.as_slice-3.ensures.value c.in-Ok.ensures.judged in
-    let none = spread_unrefused g.P.Engine.stands_for g.A.Engine.stands_for g.A.Engine.plan_for i.file i.prices i.rows i.plan i.users i.ledger i.journal i.payments c.self.invariant
+    let none = spread_unrefused g.P.Engine.stands_for g.A.Engine.stands_for g.A.Engine.plan_for i.file i.prices i.rows i.plan i.users i.ledger i.journal i.payments i.till c.self.invariant
     made.new.prices made.new.users c.args.name.now found.request.user found.ensures.user
     c.args.variable.now c.args.condition.now spread question c.args.to.now c.args.at
     (found.ensures.refusal c.args.condition.now c.args.to.now (sym c.as_slice.ensures.value) (sym c.as_slice-2.ensures.value)) judged.quote judged.judge.its judged.is_inside.inside in
@@ -212,7 +212,7 @@ invariant_of-self-2 g c =
     (λ (r : TradeRatio). i.journal.history ++ Trade found.request.user r ∷ []) same in
     let quotes = c.trade.ensures.quotes ∙ judged.same_quotes in
     trade_kept g.P.Engine.stands_for g.A.Engine.stands_for g.A.Engine.plan_for i.file i.prices
-    i.rows i.plan i.users i.ledger i.journal i.payments c.self.invariant found.request.user
+    i.rows i.plan i.users i.ledger i.journal i.payments i.till c.self.invariant found.request.user
     found.ensures.user.within
     (trade_ratio c.ratio_of_spread-ratio.result) (Spread c.args.name.now c.args.variable.now c.args.condition.now c.args.to.now c.args.at) (Spreaded factors c.revision.result) tt tt
     (spread_has_units i.file i.journal opened c.args.name.now found.request.user found.ensures.user
@@ -230,7 +230,7 @@ invariant_of-self-2 g c =
     c.args.variable.now c.args.condition.now spread question judged.quote judged.judge.its
     c.args.to.now factors judged.is_inside.fair i.users c.trade.new.users c.trade.new.journal c.args.at none judged.is_inside.inside judged.judge.last history quotes
     c.revision.result c.revision.ensures)
-    c.trade.ensures.history quotes c.trade.new.prices c.trade.ensures.limit (λ m stands. c.trade.ensures.prices m (c.in-Ok.ensures.prices m stands))
+    c.trade.ensures.history quotes c.trade.new.prices c.trade.ensures.limits (λ m stands. c.trade.ensures.prices m (c.in-Ok.ensures.prices m stands))
     (c.trade.ensures.names ∙ c.in-Ok.ensures.names) (c.trade.ensures.assets i.file.net i.file.tree (λ u. c.in-Ok.ensures.assets u _ (c.self.invariant.owns u)))
 
 pub returns : goal.returns
@@ -240,12 +240,12 @@ returns g c =
     let made = c.judge_spread in
     let spread = spread_in found.request.question in
     let question = question_for i.file i.journal.history c.args.variable.now c.as_slice.result.now c.args.condition.now spread c.as_slice.ensures.value found.ensures.question in
-    let opened = is_open g.P.Engine.stands_for g.A.Engine.stands_for g.A.Engine.plan_for i.file i.prices i.rows i.plan i.users i.ledger i.journal i.payments c.self.invariant in
+    let opened = is_open g.P.Engine.stands_for g.A.Engine.stands_for g.A.Engine.plan_for i.file i.prices i.rows i.plan i.users i.ledger i.journal i.payments i.till c.self.invariant in
     let factors = c.in-Ok.factors in
     let judged = subst (λ (Xs : List ℕ). IsTaken i.file.net i.file.tree i.journal.history
     found.request.user spread (quotes_of i.users) (quotes_of made.new.users) Xs factors.items)
     c.as_slice-3.ensures.value c.in-Ok.ensures.judged in
-    let none = spread_unrefused g.P.Engine.stands_for g.A.Engine.stands_for g.A.Engine.plan_for i.file i.prices i.rows i.plan i.users i.ledger i.journal i.payments c.self.invariant
+    let none = spread_unrefused g.P.Engine.stands_for g.A.Engine.stands_for g.A.Engine.plan_for i.file i.prices i.rows i.plan i.users i.ledger i.journal i.payments i.till c.self.invariant
     made.new.prices made.new.users c.args.name.now found.request.user found.ensures.user
     c.args.variable.now c.args.condition.now spread question c.args.to.now c.args.at
     (found.ensures.refusal c.args.condition.now c.args.to.now (sym c.as_slice.ensures.value) (sym c.as_slice-2.ensures.value)) judged.quote judged.judge.its judged.is_inside.inside in

@@ -11,60 +11,60 @@ use Rattle.mk_market.proofs.market.Market.withdraw.Goals as goal
 pub returns-in_err-user : goal.returns-in_err-user
 returns-in_err-user g c =
     answered_refused _ c.args.self.now _ c.self.view_is (Withdraw c.args.name.now c.args.bits) tt c.in_err-user.field-0.0 c.from_residual.result
-    c.from_residual.ensures.1 (c.in_err-user.ensures.withdrawal (market_of c.self.inside.file))
+    c.from_residual.ensures.1 (c.in_err-user.ensures.withdrawal (market_of c.self.inside.file) c.self.invariant.max_transfers)
 
 pub least_of-requires : goal.least_of-requires
 least_of-requires g c =
-    can_find g.P.Engine.stands_for g.A.Engine.stands_for g.A.Engine.plan_for _ _ _ _ _ _ _ _ c.self.invariant c.args.name.now c.in_ok-user.user c.in_ok-user.ensures.user
+    can_find g.P.Engine.stands_for g.A.Engine.stands_for g.A.Engine.plan_for _ _ _ _ _ _ _ _ _ c.self.invariant c.args.name.now c.in_ok-user.user c.in_ok-user.ensures.user
     c.assets-assets.result.now c.assets-assets.result.now c.assets-assets.ensures.value
 
 pub invariant_of-self : goal.invariant_of-self
 invariant_of-self g c =
-    worst_kept g.P.Engine.stands_for g.A.Engine.stands_for g.A.Engine.plan_for _ _ _ _ _ _ _ _ c.self.invariant c.args.name.now c.in_ok-user.user c.in_ok-user.ensures.user
+    worst_kept g.P.Engine.stands_for g.A.Engine.stands_for g.A.Engine.plan_for _ _ _ _ _ _ _ _ _ c.self.invariant c.args.name.now c.in_ok-user.user c.in_ok-user.ensures.user
     c.assets-assets.result.now c.least_of.new.assets c.assets-assets.ensures.value c.least_of.ensures.kept
 
 pub returns-then-bits-most : goal.returns-then-bits-most
 returns-then-bits-most g c =
     rw (← c.self.view_is) (record {
       market = refl;
-      allowed = λ sound. short_allowed g.P.Engine.stands_for g.A.Engine.stands_for g.A.Engine.plan_for _ _ _ _ _ _ _ _ c.self.invariant c.args.name.now c.in_ok-user.user c.args.bits c.in_ok-user.ensures.user c.in_ok-user.ensures.room
+      allowed = λ sound. short_allowed g.P.Engine.stands_for g.A.Engine.stands_for g.A.Engine.plan_for _ _ _ _ _ _ _ _ _ c.self.invariant c.args.name.now c.in_ok-user.user c.args.bits c.in_ok-user.ensures.user c.in_ok-user.ensures.room
           c.assets-assets.result.now c.least_of.new.assets c.assets-assets.ensures.value c.least_of.ensures.kept
-          c.least_of.result c.most_bits-most.result (c.in_ok-user.ensures.withdrawal (market_of c.self.inside.file)) c.least_of.ensures.least
+          c.least_of.result c.most_bits-most.result (c.in_ok-user.ensures.withdrawal (market_of c.self.inside.file) c.self.invariant.max_transfers) c.least_of.ensures.least
           c.least_of.ensures.idle c.if-bits-most.true c.most_bits-most.ensures.most sound;
-      next = short_next g.P.Engine.stands_for g.A.Engine.stands_for g.A.Engine.plan_for _ _ _ _ _ _ _ _ c.self.invariant c.args.name.now c.in_ok-user.user c.args.bits c.in_ok-user.ensures.user c.in_ok-user.ensures.room
+      next = short_next g.P.Engine.stands_for g.A.Engine.stands_for g.A.Engine.plan_for _ _ _ _ _ _ _ _ _ c.self.invariant c.args.name.now c.in_ok-user.user c.args.bits c.in_ok-user.ensures.user c.in_ok-user.ensures.room
           c.assets-assets.result.now c.least_of.new.assets c.assets-assets.ensures.value c.least_of.ensures.kept c.least_of.new.assets c.most_bits-most.result;
       paid = λ u. refl;
     })
 
 pub withdraw-requires : goal.withdraw-requires
-withdraw-requires g c = can_withdraw g.P.Engine.stands_for g.A.Engine.stands_for g.A.Engine.plan_for _ _ _ _ _ _ _ _ c.self.invariant c.args.name.now c.in_ok-user.user c.args.bits c.in_ok-user.ensures.user c.in_ok-user.ensures.room
+withdraw-requires g c = can_withdraw g.P.Engine.stands_for g.A.Engine.stands_for g.A.Engine.plan_for _ _ _ _ _ _ _ _ _ c.self.invariant c.args.name.now c.in_ok-user.user c.args.bits c.in_ok-user.ensures.user c.in_ok-user.ensures.room
     c.assets-assets.result.now c.least_of.new.assets c.assets-assets.ensures.value c.least_of.ensures.kept
 
 pub withdraw-requires-2-clause-fits : goal.withdraw-requires-2-clause-fits
-withdraw-requires-2-clause-fits g c = points_fit g.P.Engine.stands_for g.A.Engine.stands_for g.A.Engine.plan_for _ _ _ _ _ _ _ _ c.self.invariant c.args.name.now c.in_ok-user.user c.args.bits c.in_ok-user.ensures.user c.in_ok-user.ensures.room
+withdraw-requires-2-clause-fits g c = points_fit g.P.Engine.stands_for g.A.Engine.stands_for g.A.Engine.plan_for _ _ _ _ _ _ _ _ _ c.self.invariant c.args.name.now c.in_ok-user.user c.args.bits c.in_ok-user.ensures.user c.in_ok-user.ensures.room
 
 pub invariant_of-self-2 : goal.invariant_of-self-2
 invariant_of-self-2 g c =
-    withdrawal_kept g.P.Engine.stands_for g.A.Engine.stands_for g.A.Engine.plan_for _ _ _ _ _ _ _ _ c.self.invariant c.args.name.now c.in_ok-user.user c.args.bits c.in_ok-user.ensures.user c.in_ok-user.ensures.room
+    withdrawal_kept g.P.Engine.stands_for g.A.Engine.stands_for g.A.Engine.plan_for _ _ _ _ _ _ _ _ _ c.self.invariant c.args.name.now c.in_ok-user.user c.args.bits c.in_ok-user.ensures.user c.in_ok-user.ensures.room
     c.assets-assets.result.now c.least_of.new.assets c.assets-assets.ensures.value c.least_of.ensures.kept
-    (c.in_ok-user.ensures.withdrawal (market_of c.self.inside.file))
+    (c.in_ok-user.ensures.withdrawal (market_of c.self.inside.file) c.self.invariant.max_transfers)
     c.withdraw.new.self c.withdraw-2.new.self c.withdraw-3.new.self c.withdraw-3.ensures.history
-    c.withdraw-3.ensures.limit c.withdraw.ensures c.withdraw-2.ensures
+    (record { trades = c.withdraw-3.ensures.limit; users = c.withdraw-3.ensures.users; transfers = c.withdraw-3.ensures.transfers }) c.withdraw.ensures c.withdraw-2.ensures
 
 pub returns : goal.returns
 returns g c =
     rw (← c.self.view_is) (record {
       market = refl;
-      allowed = λ sound. withdrawal_allowed g.P.Engine.stands_for g.A.Engine.stands_for g.A.Engine.plan_for _ _ _ _ _ _ _ _ c.self.invariant c.args.name.now c.in_ok-user.user c.args.bits c.in_ok-user.ensures.user c.in_ok-user.ensures.room
+      allowed = λ sound. withdrawal_allowed g.P.Engine.stands_for g.A.Engine.stands_for g.A.Engine.plan_for _ _ _ _ _ _ _ _ _ c.self.invariant c.args.name.now c.in_ok-user.user c.args.bits c.in_ok-user.ensures.user c.in_ok-user.ensures.room
           c.assets-assets.result.now c.least_of.new.assets c.assets-assets.ensures.value c.least_of.ensures.kept
-          c.least_of.result c.most_bits-most.result (c.in_ok-user.ensures.withdrawal (market_of c.self.inside.file)) c.least_of.ensures.least
+          c.least_of.result c.most_bits-most.result (c.in_ok-user.ensures.withdrawal (market_of c.self.inside.file) c.self.invariant.max_transfers) c.least_of.ensures.least
           c.withdraw-3.new.self c.withdraw-3.ensures.history c.if-bits-most.false c.most_bits-most.ensures.covered c.revision.result c.revision.ensures sound;
-      next = withdrawal_next g.P.Engine.stands_for g.A.Engine.stands_for g.A.Engine.plan_for _ _ _ _ _ _ _ _ c.self.invariant c.args.name.now c.in_ok-user.user c.args.bits c.in_ok-user.ensures.user c.in_ok-user.ensures.room
+      next = withdrawal_next g.P.Engine.stands_for g.A.Engine.stands_for g.A.Engine.plan_for _ _ _ _ _ _ _ _ _ c.self.invariant c.args.name.now c.in_ok-user.user c.args.bits c.in_ok-user.ensures.user c.in_ok-user.ensures.room
           c.assets-assets.result.now c.least_of.new.assets c.assets-assets.ensures.value c.least_of.ensures.kept
-          (c.in_ok-user.ensures.withdrawal (market_of c.self.inside.file))
+          (c.in_ok-user.ensures.withdrawal (market_of c.self.inside.file) c.self.invariant.max_transfers)
           c.withdraw.new.self c.withdraw-2.new.self c.withdraw-3.new.self c.withdraw-3.ensures.history c.revision.result;
       paid = withdrawal_paid g.P.Engine.stands_for g.A.Engine.stands_for g.A.Engine.plan_for _ _ _ _
-          _ _ _ _ c.self.invariant c.args.name.now c.in_ok-user.user c.args.bits
+          _ _ _ _ _ c.self.invariant c.args.name.now c.in_ok-user.user c.args.bits
           c.in_ok-user.ensures.user c.in_ok-user.ensures.room
           c.withdraw-2.new.self c.withdraw-2.ensures c.revision.result;
     })

@@ -12,10 +12,10 @@ returns-in_err-user g c =
 
 pub least_of-factor-requires : goal.least_of-factor-requires
 least_of-factor-requires g c =
-    can_find g.P.Engine.stands_for g.A.Engine.stands_for g.A.Engine.plan_for _ _ _ _ _ _ _ _ c.self.invariant c.args.name.now c.in_ok-user.user c.in_ok-user.ensures.user c.assets.result.now c.assets.result.now c.assets.ensures.value
+    can_find g.P.Engine.stands_for g.A.Engine.stands_for g.A.Engine.plan_for _ _ _ _ _ _ _ _ _ c.self.invariant c.args.name.now c.in_ok-user.user c.in_ok-user.ensures.user c.assets.result.now c.assets.result.now c.assets.ensures.value
 
 pub invariant_of-self : goal.invariant_of-self
-invariant_of-self g c = worst_kept g.P.Engine.stands_for g.A.Engine.stands_for g.A.Engine.plan_for _ _ _ _ _ _ _ _ c.self.invariant c.args.name.now c.in_ok-user.user c.in_ok-user.ensures.user
+invariant_of-self g c = worst_kept g.P.Engine.stands_for g.A.Engine.stands_for g.A.Engine.plan_for _ _ _ _ _ _ _ _ _ c.self.invariant c.args.name.now c.in_ok-user.user c.in_ok-user.ensures.user
     c.assets.result.now c.least_of-factor.new.assets c.assets.ensures.value c.least_of-factor.ensures.kept
 
 pub returns : goal.returns
@@ -23,10 +23,10 @@ returns g c =
     let found = c.in_ok-user in
     rw (← c.self.view_is) (record {
       market = refl;
-      allowed = λ sound. worst_allowed g.P.Engine.stands_for g.A.Engine.stands_for g.A.Engine.plan_for _ _ _ _ _ _ _ _ c.self.invariant c.args.name.now found.user found.ensures.user c.assets.result.now c.least_of-factor.new.assets c.assets.ensures.value c.least_of-factor.result c.cash.result.0 c.cash.result.1
+      allowed = λ sound. worst_allowed g.P.Engine.stands_for g.A.Engine.stands_for g.A.Engine.plan_for _ _ _ _ _ _ _ _ _ c.self.invariant c.args.name.now found.user found.ensures.user c.assets.result.now c.least_of-factor.new.assets c.assets.ensures.value c.least_of-factor.result c.cash.result.0 c.cash.result.1
           sound (found.ensures.refusal (market_of c.self.inside.file))
           c.least_of-factor.ensures.least c.least_of-factor.ensures.idle
           c.cash.ensures.covers;
-      next = worst_next g.P.Engine.stands_for g.A.Engine.stands_for g.A.Engine.plan_for _ _ _ _ _ _ _ _ c.self.invariant c.args.name.now found.user found.ensures.user c.assets.result.now c.least_of-factor.new.assets c.assets.ensures.value c.cash.result.0 c.cash.result.1;
+      next = worst_next g.P.Engine.stands_for g.A.Engine.stands_for g.A.Engine.plan_for _ _ _ _ _ _ _ _ _ c.self.invariant c.args.name.now found.user found.ensures.user c.assets.result.now c.least_of-factor.new.assets c.assets.ensures.value c.cash.result.0 c.cash.result.1;
       paid = λ u. refl;
     })

@@ -1,0 +1,42 @@
+-- Payments that fit, and how many there are.
+use Rattle.std.proofs.Common.{◌≡◌, ℕ, zero, suc, ◌+◌, ◌<◌, List, [], ◌∷◌, map, length, slice_index_or, ◌∙◌, arith}
+use Rattle.std.specs.List.{AllByRecursion}
+use Rattle.std.proofs.lemmas.List.{length-map}
+use Rattle.std.proofs.lemmas.List.FromFn.{length-range_with_len}
+use Rattle.mk_net.specs.Bounds.{number_limit}
+use Rattle.mk_net.specs.Network.{Variable}
+use Rattle.mk_states.specs.States.{numbers_below}
+use Rattle.mk_exact.specs.History.{Entry, users}
+use Rattle.mk_exact.specs.ByRule.{payment_by_rule, outcome, payments_by_rule}
+use Rattle.mk_reply.specs.declared.payments.Payment.{Payment}
+use Rattle.mk_reply.specs.Replies.{IsPayment as IsReadPayment}
+use Rattle.mk_rules.specs.Answers.{ends_of}
+use Rattle.mk_rules.specs.Bounded.{FitPayment}
+use Rattle.mk_record.specs.declared.entry.Payout.{Payout}
+use Rattle.mk_record.specs.Entries.{ends}
+
+pub lows_fit : (rows : List Payout) → AllByRecursion FitPayment (map ends rows) → (k : ℕ) (d : Payout) → k < length rows
+    → (slice_index_or rows k d).low < number_limit
+lows_fit [] h k d inside = absurd (omega arith)
+lows_fit (p ∷ rows) h zero d inside = h.0.low
+lows_fit (p ∷ rows) h (suc k) d inside = lows_fit rows h.1 k d (omega (arith, inside))
+
+pub highs_fit : (rows : List Payout) → AllByRecursion FitPayment (map ends rows) → (k : ℕ) (d : Payout) → k < length rows
+    → (slice_index_or rows k d).high < number_limit
+highs_fit [] h k d inside = absurd (omega arith)
+highs_fit (p ∷ rows) h zero d inside = h.0.high
+highs_fit (p ∷ rows) h (suc k) d inside = highs_fit rows h.1 k d (omega (arith, inside))
+
+pub pays_fit : (pays : List Payment) → AllByRecursion (λ (p : Payment). p.low < number_limit) pays
+    → AllByRecursion (λ (p : Payment). p.high < number_limit) pays → AllByRecursion FitPayment (map ends_of pays)
+pays_fit [] lows highs = tt
+pays_fit (p ∷ pays) lows highs = (record { low = lows.0; high = highs.0 }, pays_fit pays lows.1 highs.1)
+
+pub read_fit : (pays : List Payment) → AllByRecursion IsReadPayment pays → AllByRecursion FitPayment (map ends_of pays)
+read_fit [] h = tt
+read_fit (p ∷ pays) h = (record { low = h.0.low; high = h.0.high }, read_fit pays h.1)
+
+-- by rule there is one payment for each user
+pub rule_count : (network : List Variable) (H : List Entry) (b : ℕ) → length (payments_by_rule network H b) ≡ length (users H)
+rule_count network H b = length-map (numbers_below (length (users H))) (payment_by_rule H b (outcome network H))
+    ∙ length-range_with_len 0 (length (users H))
