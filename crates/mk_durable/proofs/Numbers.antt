@@ -20,16 +20,17 @@ kinds (Withdraw user bits ∷ H) =
     omega (arith, kinds H, count_first is_transfer (Withdraw user bits) H)
 kinds (Trade user ratio ∷ H) = omega (arith, kinds H)
 kinds (Resolve pair ∷ H) = omega (arith, kinds H)
-kinds (Settle ∷ H) = omega (arith, kinds H, count_first is_settlement Settle H)
+kinds (Settle payments ∷ H) = omega (arith, kinds H, count_first is_settlement (Settle payments) H)
 kinds (Add addition ∷ H) = omega (arith, kinds H)
 
 pub few_changes : (market : Market) (H : List Entry) → IsSafe market H
-    → revision H ≤ 131585 + length (additions H)
+    → revision H ≤ 1131329 + length (additions H)
 few_changes market H safe =
     omega (
       arith,
       kinds H,
       safe.bounded.few_users,
+      safe.legal.few_users,
       safe.bounded.within.few_transfers,
       safe.bounded.within.few_trades,
       few_resolutions market.network H safe.proper,

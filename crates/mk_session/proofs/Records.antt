@@ -13,6 +13,7 @@ use Rattle.mk_rules.specs.Standings.{IsReady}
 use Rattle.mk_rules.specs.Transcript.{Standing, Line, OfCommand, NoCommand, LongLine}
 use Rattle.mk_rules.specs.Transcript.{after, Run}
 use Rattle.mk_rules.proofs.Ready.{step_keeps_ready}
+use Rattle.mk_rules.proofs.Bounds.{limits_of}
 use Rattle.mk_rules.proofs.Follows.{bounded_keeps, bounded_in}
 use Rattle.mk_rules.proofs.Texts.{replies_have_texts}
 use Rattle.mk_restore.specs.Restoring.{Changes, IsChange, change_of, changes_of}
@@ -62,13 +63,13 @@ changes_have_texts market now new (x ∷ xs) (r ∷ rs) ready bounded are run =
     let here = present market now.history in
     let next = after here now x r in
     let legal = ready.stands.legal in
-    let bounded_here = bounded_in market here now.history refl bounded in
-    let bounded_next = bounded_keeps here now x r legal.few_trades are.0 bounded_here run.0 in
+    let bounded_here = bounded_in market here now.history refl refl refl bounded in
+    let bounded_next = bounded_keeps here now x r (limits_of here legal) are.0 bounded_here run.0 in
     both_have (change_of here now.history x r) (changes_of market next xs rs)
     (change_has_text here now.history x r are.0
     (replies_have_texts here now x r legal ready bounded_here are.0 run.0))
     (changes_have_texts market next new xs rs (step_keeps_ready market now x r ready run.0)
-    (bounded_in here market next.history refl bounded_next) are.1 run.1)
+    (bounded_in here market next.history refl refl refl bounded_next) are.1 run.1)
 
 each_recorded : (changes : Changes) → AllByRecursion IsChange changes
     → AllZip IsRecordOf (records_of changes) changes
