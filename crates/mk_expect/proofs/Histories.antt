@@ -63,7 +63,7 @@ module _ (u : ℕ) where
   over_trades f (Deposit v n ∷ P) = passed f (Deposit v n) P refl refl (over_trades f P)
   over_trades f (Withdraw v n ∷ P) = passed f (Withdraw v n) P refl refl (over_trades f P)
   over_trades f (Resolve p ∷ P) = passed f (Resolve p) P refl refl (over_trades f P)
-  over_trades f (Settle ∷ P) = passed f Settle P refl refl (over_trades f P)
+  over_trades f (Settle payments ∷ P) = passed f (Settle payments) P refl refl (over_trades f P)
   over_trades f (Add a ∷ P) = passed f (Add a) P refl refl (over_trades f P)
 
   -- a sum over entries, each of which adds bits or a trade

@@ -25,7 +25,7 @@ module _ (network : List Variable) (tree : GivenTree) (joined : ℕ) where
   each_fits (Deposit user n ∷ H) fits homes = (tt, each_fits H fits homes)
   each_fits (Withdraw user n ∷ H) fits homes = (tt, each_fits H fits homes)
   each_fits (Resolve p ∷ H) fits homes = (tt, each_fits H fits homes)
-  each_fits (Settle ∷ H) fits homes = (tt, each_fits H fits homes)
+  each_fits (Settle payments ∷ H) fits homes = (tt, each_fits H fits homes)
   each_fits (Add a ∷ H) fits homes = (tt, each_fits H fits homes)
 
 pub all_fit : (network : List Variable) (tree : GivenTree) (H : List Entry)

@@ -21,7 +21,7 @@ module _ (joined u : ℕ) where
   one_in (Withdraw v n) h = omega arith
   one_in (Trade v r) h = omega arith
   one_in (Resolve p) h = omega arith
-  one_in Settle h = omega arith
+  one_in (Settle payments) h = omega arith
   one_in (Add a) h = omega arith
 
   one_out : (e : Entry) → FitsTransfer joined e
@@ -31,7 +31,7 @@ module _ (joined u : ℕ) where
   one_out (Withdraw v n) h = own_bits (eqb v u) n h.few
   one_out (Trade v r) h = omega arith
   one_out (Resolve p) h = omega arith
-  one_out Settle h = omega arith
+  one_out (Settle payments) h = omega arith
   one_out (Add a) h = omega arith
 
   all_at_most : (m : Entry → ℕ)

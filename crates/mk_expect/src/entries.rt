@@ -67,9 +67,8 @@ fn entry_tally<E: Engine<SumProd>>(
         }
         Entry::Deposit { user: owner, bits } => bits_tally(own_bits(*owner, user, *bits), 0),
         Entry::Withdraw { user: owner, bits } => bits_tally(0, own_bits(*owner, user, *bits)),
-        Entry::Join { .. } | Entry::Resolve { .. } | Entry::Add { .. } | Entry::Settle => {
-            bits_tally(0, 0)
-        }
+        Entry::Join { .. } | Entry::Resolve { .. } | Entry::Add { .. } | Entry::Settle { .. } =>
+            bits_tally(0, 0),
     }
 }
 

@@ -13,7 +13,7 @@ const PARTS: u128 = 1 << 54;
 /// many as it is at least, and as many as it is at most.
 pub(crate) fn points_of(tally: &Tally, points_per_bit: u32) -> (i64, i64)
     requires few_points { points_per_bit ≤ max_points_per_bit }
-    requires small { IsWithin tally.now (2 ^ 83) (2 ^ 83) }
+    requires small { IsWithin tally.now (2 ^ 85) (2 ^ 85) }
     ensures { ArePoints tally.now points_per_bit result.0 result.1 }
 {
     let points = points_per_bit as u128;
@@ -24,12 +24,12 @@ pub(crate) fn points_of(tally: &Tally, points_per_bit: u32) -> (i64, i64)
 
 /// The greatest whole number of points that is at most `more` less `less`, in parts of 2^54.
 fn points_below(more: u128, less: u128) -> i64
-    requires more { more < 2 ^ 104 }
-    requires less { less < 2 ^ 104 }
+    requires more { more < 2 ^ 106 }
+    requires less { less < 2 ^ 106 }
     ensures below { above_zero result * 2 ^ 54 + less ≤ more + below_zero result * 2 ^ 54 }
     ensures greatest { more + below_zero result * 2 ^ 54
         < above_zero result * 2 ^ 54 + less + 2 ^ 54 }
-    ensures small { above_zero result + below_zero result ≤ 2 ^ 51 }
+    ensures small { above_zero result + below_zero result ≤ 2 ^ 53 }
 {
     if less <= more {
         ((more - less) / PARTS) as i64

@@ -70,7 +70,7 @@ returns-in-Join-clause-adds g c = λ network H has bits are.
         | inl r ↦ subst P (sym r.1) (nothing)
         | inr other ↦ elim other [
           | inl q ↦ subst P (sym q.1) (nothing)
-          | inr s ↦ subst P (sym s) (nothing)
+          | inr s ↦ subst P (sym s.1) (nothing)
         ]
       ]
     ]
