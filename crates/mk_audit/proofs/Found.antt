@@ -26,6 +26,7 @@ use Rattle.mk_rules.specs.Standings.{IsReady}
 use Rattle.mk_rules.specs.Bounded.{IsBounded}
 use Rattle.mk_rules.proofs.Keeps.{present_with}
 use Rattle.mk_rules.proofs.Ready.{ready_keeps}
+use Rattle.mk_rules.proofs.Bounds.{limits_of}
 use Rattle.mk_rules.proofs.Follows.{bounded_keeps, bounded_in}
 use Rattle.mk_session.specs.Texts.{reply_line}
 use Rattle.mk_session.specs.Transcript.{Asks}
@@ -271,17 +272,25 @@ pub stands_next : (market : Market) (now then : Standing) (before behind : Front
 stands_next market now then before behind command reply history quotes =
     ap₂ (λ (h : List Entry) (q : Quotes). standing_of h q) history quotes
 
--- what is added leaves the most trades
-most_stays : (o : Option Entry) (market : Market)
-    → market.max_trades ≡ (with_entries o market).max_trades
-most_stays None market = refl
-most_stays (Some (Join name)) market = refl
-most_stays (Some (Deposit user bits)) market = refl
-most_stays (Some (Withdraw user bits)) market = refl
-most_stays (Some (Trade user ratio)) market = refl
-most_stays (Some (Resolve pair)) market = refl
-most_stays (Some Settle) market = refl
-most_stays (Some (Add addition)) market = refl
+-- what is added leaves the most users, trades and transfers
+record HasSameLimits (market later : Market) : Type 0 where
+  pub users : market.max_users ≡ later.max_users
+  pub trades : market.max_trades ≡ later.max_trades
+  pub transfers : market.max_transfers ≡ later.max_transfers
+
+limits_stay : (o : Option Entry) (market : Market) → HasSameLimits market (with_entries o market)
+limits_stay None market = record { users = refl; trades = refl; transfers = refl }
+limits_stay (Some (Join name)) market = record { users = refl; trades = refl; transfers = refl }
+limits_stay (Some (Deposit user bits)) market =
+    record { users = refl; trades = refl; transfers = refl }
+limits_stay (Some (Withdraw user bits)) market =
+    record { users = refl; trades = refl; transfers = refl }
+limits_stay (Some (Trade user ratio)) market =
+    record { users = refl; trades = refl; transfers = refl }
+limits_stay (Some (Resolve pair)) market = record { users = refl; trades = refl; transfers = refl }
+limits_stay (Some (Settle payments)) market =
+    record { users = refl; trades = refl; transfers = refl }
+limits_stay (Some (Add addition)) market = record { users = refl; trades = refl; transfers = refl }
 
 stands_behind : (market other : Market) (now then : Standing) (before behind : Front)
     (command : Command) (reply : Reply) → IsCommand command
@@ -291,18 +300,17 @@ stands_behind : (market other : Market) (now then : Standing) (before behind : F
     → IsKnown other then.history behind.known → StandsAt other then behind
 stands_behind market other now then before behind command reply is allowed stands leads next known =
     let old = standing_at now before in
-    let most : market.max_trades ≡ other.max_trades =
-    most_stays (entry_of market now.history command reply) market
-    ∙ ap (λ (m : Market). m.max_trades) (sym leads) in
+    let same = subst (λ (m : Market). HasSameLimits market m) (sym leads)
+    (limits_stay (entry_of market now.history command reply) market) in
     record {
       known = known;
       ready = subst (λ (m : Market). IsReady m (standing_at then behind)) (sym leads)
           (subst (λ (s : Standing). IsReady (market_after market now (OfCommand command) reply) s)
           (sym next) (ready_keeps market old (OfCommand command) reply stands.ready allowed));
-      bounded = bounded_in market other then.history most
+      bounded = bounded_in market other then.history same.trades same.users same.transfers
           (subst (λ (s : Standing). IsBounded market s.history) (sym next)
-          (bounded_keeps market old (OfCommand command) reply stands.ready.stands.legal.few_trades
-          is stands.bounded allowed));
+          (bounded_keeps market old (OfCommand command) reply
+          (limits_of market stands.ready.stands.legal) is stands.bounded allowed));
     }
 
 -- a reply was judged allowed where the history stands, and the audit goes on behind it

@@ -9,6 +9,7 @@ use Rattle.std.proofs.lemmas.Bool.Decides.{nat_tests}
 use Rattle.std.proofs.lemmas.Fmt.{decimal_is_IsNumeral}
 use Rattle.std.proofs.lemmas.List.Elements.{recursion_from_All, All-from_recursion}
 use Rattle.std.proofs.lemmas.List.Folds.{list_all-append}
+use Rattle.mk_net.specs.Bounds.{max_users}
 use Rattle.mk_net.specs.Name.{IsName, is_name_byte}
 use Rattle.mk_net.specs.declared.words.PairText.{PairText}
 use Rattle.mk_text.specs.Joined.{◌&◌, items_text, spaced, AreSeveral}
@@ -29,7 +30,7 @@ use Rattle.mk_reply.specs.declared.reply.Reply.TheVariants.{Joined, Deposited, W
 use Rattle.mk_reply.specs.declared.reply.Reply.TheVariants.{Limits, Traded, Bounded, Spreaded}
 use Rattle.mk_reply.specs.declared.reply.Reply.TheVariants.{Worst, Resolved, Settled, Bound}
 use Rattle.mk_reply.specs.declared.reply.Reply.TheVariants.{Prices, Position, Status, Refused}
-use Rattle.mk_reply.specs.declared.reply.Reply.TheVariants.{Added}
+use Rattle.mk_reply.specs.declared.reply.Reply.TheVariants.{Added, Paid, SettledAll}
 use Rattle.mk_reply.specs.declared.refusal.Refusal.{Refusal}
 use Rattle.mk_reply.specs.declared.refusal.Refusal.TheVariants.{Syntax, Long, Settled as Over}
 use Rattle.mk_reply.specs.declared.refusal.Refusal.TheVariants.{User, Exists, Users, Unknown}
@@ -40,7 +41,7 @@ use Rattle.mk_reply.specs.declared.refusal.Refusal.TheVariants.{NoVariable, Numb
 use Rattle.mk_reply.specs.declared.refusal.Refusal.TheVariants.{Sure, Memory}
 use Rattle.mk_reply.specs.declared.refusal.Refusal.TheVariants.{Variables, Taken, ValueTwice}
 use Rattle.mk_reply.specs.declared.refusal.Refusal.TheVariants.{RowCount, RowWidth, Cells, Link}
-use Rattle.mk_reply.specs.declared.refusal.Refusal.TheVariants.{Uncovered, NotRunning}
+use Rattle.mk_reply.specs.declared.refusal.Refusal.TheVariants.{Uncovered, NotRunning, Unsettled}
 use Rattle.mk_reply.proofs.ReplyLaws.{form_tells}
 use Rattle.mk_session.specs.Texts.{reply_line}
 use Rattle.mk_audit.specs.Laws.{ReplyIsOneLine}
@@ -175,7 +176,7 @@ why_in_line Over is = refl
 why_in_line (User user) is = both (codes "user ") user refl (name user is)
 why_in_line (Exists user) is = both (codes "exists ") user refl (name user is)
 why_in_line (Users held) is =
-    both (codes "users ") (decimal held) refl (number held (omega (arith, is)))
+    both (codes "users ") (decimal held) refl (number held (omega (arith, is.most)))
 why_in_line (Unknown words) is = both (codes "name ") (pair_text words) refl (pair words is)
 why_in_line (Twice variable) is = both (codes "twice ") variable refl (name variable is)
 why_in_line (Stale named now) is =
@@ -191,6 +192,7 @@ why_in_line (Full held) is = both (codes "full ") (decimal held) refl (narrow he
 why_in_line (Beyond told) is = both (codes "beyond ") (limits_text told) refl (limits told is)
 why_in_line (Short bits) is = both (codes "short ") (decimal bits) refl (long bits is)
 why_in_line (Unresolved variable) is = both (codes "open ") variable refl (name variable is)
+why_in_line Unsettled is = refl
 why_in_line (NoVariable variable) is = both (codes "variable ") variable refl (name variable is)
 why_in_line (Numbers given) is =
     both (codes "numbers ") (decimal given) refl (number given (omega (arith, is)))
@@ -255,6 +257,7 @@ in_line (Spreaded factors at) is =
     (revision at is.1))
 in_line (Worst low high) is = both (codes "worst ") (range_text low high) refl
     (range low high is.0 is.1)
+in_line (Paid told) is = both (codes "paid ") (payment_text told) refl (payment told is)
 in_line (Resolved words at) is =
     both (codes "resolve ") (pair_text words & at_text at) refl
     (both (pair_text words) (at_text at) (pair words is.0) (revision at is.1))
@@ -264,6 +267,14 @@ in_line (Settled at payments) is =
     (both (at_text at) rows (revision at is.0)
     (items_in_line IsPayment payment_text payment (codes ", ") refl payments
     (recursion_from_All IsPayment payments is.1.each)))
+in_line (SettledAll at users total) is =
+    let paid = codes " paid " & decimal total in
+    let all = codes " users " & decimal users & paid in
+    both (codes "settle") (at_text at & all) refl
+    (both (at_text at) all (revision at is.0)
+    (both (codes " users ") (decimal users & paid) refl
+    (both (decimal users) paid (number users (omega (arith, is.1.most)))
+    (both (codes " paid ") (decimal total) refl (long total is.2)))))
 in_line (Bound low high) is = both (codes "bound ") (range_text low high) refl
     (range low high is.0 is.1)
 in_line (Prices told) is =

@@ -16,6 +16,7 @@ use Rattle.mk_rules.specs.Standings.{IsReady}
 use Rattle.mk_rules.specs.Transcript.{Standing, opening, Line, OfCommand, NoCommand, LongLine}
 use Rattle.mk_rules.specs.Transcript.{IsAllowedFor, after, Run}
 use Rattle.mk_rules.proofs.Ready.{step_keeps_ready}
+use Rattle.mk_rules.proofs.Bounds.{IsLimited}
 use Rattle.mk_rules.proofs.Follows.{bounded_keeps, bounded_in}
 use Rattle.mk_rules.proofs.Texts.{replies_have_texts}
 use Rattle.mk_session.specs.Texts.{ready_line, reply_line}
@@ -62,7 +63,7 @@ has_text market now ready bounded line asked reply asks allowed =
 bounded_here : (market : Market) (now : Standing) → CanBegin market now
     → IsBounded (present market now.history) now.history
 bounded_here market now begins =
-    bounded_in market (present market now.history) now.history refl begins.bounded
+    bounded_in market (present market now.history) now.history refl refl refl begins.bounded
 
 run_has_text : (market : Market) (now : Standing) → CanBegin market now → (line : StreamLine)
     (asked : Line) (reply : Reply) → Asks line asked
@@ -75,15 +76,20 @@ pub begins_after : (market : Market) (now : Standing) → CanBegin market now �
     (reply : Reply) → IsLine asked
     → IsAllowedFor (present market now.history) now asked reply
     → CanBegin market (after (present market now.history) now asked reply)
-begins_after market now begins asked reply is allowed =
+begins_after market now begins asked reply line allowed =
     let here = present market now.history in
     let next = after here now asked reply in
+    let is = begins.is_market in
+    let few : IsLimited here = record {
+      few_points = is.few_points;
+      few_trades = is.few_trades;
+      few_transfers = is.few_transfers;
+    } in
     record {
       is_market = begins.is_market;
       ready = step_keeps_ready market now asked reply begins.ready allowed;
-      bounded = bounded_in here market next.history refl
-          (bounded_keeps here now asked reply begins.is_market.few_trades is
-          (bounded_here market now begins) allowed);
+      bounded = bounded_in here market next.history refl refl refl
+          (bounded_keeps here now asked reply few line (bounded_here market now begins) allowed);
     }
 
 -- the first of some replies in front of the others

@@ -26,7 +26,7 @@ use Rattle.mk_spread.proofs.Left.{can_come_is}
 use Rattle.mk_enclose.specs.declared.factor.Factor.{Factor}
 use Rattle.mk_file.specs.declared.market_file.MarketFile.{MarketFile}
 use Rattle.mk_file.specs.MarketOf.{market_of}
-use Rattle.mk_cash.specs.declared.ledger.Account.{Account}
+use Rattle.mk_cash.specs.Accounts.{LedgerOf}
 use Rattle.mk_judge.specs.declared.price.PriceBounds.{PriceBounds}
 use Rattle.mk_quote.specs.declared.bounds.Bounds.{Bounds}
 use Rattle.mk_quote.specs.Questions.{spread_in}
@@ -61,15 +61,15 @@ use Rattle.mk_market.proofs.Replies.{stopped_by_states, unrefused}
 use Rattle.mk_market.proofs.Together.{none_together, condition_comes}
 
 -- users who were quoted the same leave the market the same
-pub same_trading : {A Plan : Type 0} (file : MarketFile) (accounts : List Account)
+pub same_trading : {A Plan : Type 0} (file : MarketFile) (ledger : LedgerOf)
     (journal : JournalOf) (members new_members : List (Member A Plan))
     → quotes_of new_members ≡ quotes_of members
-    → trading file accounts journal new_members ≡ trading file accounts journal members
-same_trading file accounts journal members new_members same =
+    → trading file ledger journal new_members ≡ trading file ledger journal members
+same_trading file ledger journal members new_members same =
     ap (λ (qs : List (Option LastQuote)). record {
       market = market_of file;
       standing = record { history = journal.history; quotes = map (option_map quoted) qs };
-      accounts = accounts;
+      accounts = ledger.accounts;
     }) same
 
 -- what is refused

@@ -16,7 +16,7 @@ use mk_answers::{
     least_of, least_weight_of, price_bounds_of, sure_factors_of, value_price_bounds_of,
 };
 use mk_enclose::{Enclosure, Factor};
-use mk_engine::TreeGraded;
+use mk_engine::{Engine, TreeGraded};
 use mk_judge::PriceBounds;
 use mk_market::{Market, refuse_condition};
 use mk_net::{Name, PairText, QuestionText};
@@ -134,6 +134,13 @@ pub fn position_evidence<P: TreeGraded<SumProd>, A: TreeGraded<MinProd>>(
             words,
         )),
     }
+}
+
+/// How many users joined.
+pub fn joined<P: Engine<SumProd>, A: Engine<MinProd>>(market: &Market<P, A>) -> u32
+    ensures { result ≡ length (users (market.now.standing).history) }
+{
+    market.journal.joined()
 }
 
 /// The factor of a user, by number, in the one state that is left, by which a settlement pays

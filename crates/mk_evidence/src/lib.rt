@@ -8,7 +8,7 @@ mod evidence_of_spreads;
 mod refused;
 
 pub use evidence::{
-    bound_evidence, payment_evidence, position_evidence, price_evidence, prices_evidence,
+    bound_evidence, joined, payment_evidence, position_evidence, price_evidence, prices_evidence,
     withdrawal_evidence, worst_evidence,
 };
 pub use evidence_of_edits::{EditEvidence, edit_evidence, limits_evidence};

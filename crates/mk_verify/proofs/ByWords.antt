@@ -3,19 +3,20 @@ use Rattle.std.proofs.Common.{◌≡◌, ◌↔◌, ◌⊎◌, ℕ, inl, inr, Bo
 use Rattle.mk_exact.specs.History.{Entry}
 use Rattle.mk_exact.specs.Market.{Market}
 use Rattle.mk_command.specs.declared.command.Command.{Command}
-use Rattle.mk_command.specs.declared.command.Command.TheVariants.{Status}
+use Rattle.mk_command.specs.declared.command.Command.TheVariants.{Status, Paid}
 use Rattle.mk_reply.specs.declared.refusal.Refusal.TheVariants.{Memory}
 use Rattle.mk_reply.specs.declared.reply.Reply.{Reply}
 use Rattle.mk_reply.specs.declared.reply.Reply.TheVariants.{Joined, Added, Refused}
 use Rattle.mk_reply.specs.contracts.reply.ReplyPartialEq.TheImpl.{ghosts as reply_ghosts}
-use Rattle.mk_rules.specs.Answers.{IsAnswer, IsAllowed}
+use Rattle.mk_exact.specs.History.{payment_to}
+use Rattle.mk_rules.specs.Answers.{IsAnswer, IsAllowed, told_payment}
 use Rattle.mk_rules.specs.Standings.{Stands}
 use Rattle.mk_rules.specs.Quotes.{Quotes}
-use Rattle.mk_rules.specs.Refusals.{first_refusal}
+use Rattle.mk_rules.specs.Refusals.{first_refusal, user_number}
 use Rattle.mk_judge.specs.declared.judged.Judged.TheVariants.{Allowed, Wrong}
 use Rattle.mk_verify.specs.Clear.{IsOpen}
 use Rattle.mk_verify.specs.inner.Judging.{JudgesReply, by_words}
-use Rattle.mk_verify.proofs.Same.{one_status, status_is_one}
+use Rattle.mk_verify.proofs.Same.{one_status, status_is_one, one_payment, payment_is_one}
 use Rattle.mk_verify.proofs.Verdicts.{judges_answer}
 
 pub judges_words : (market : Market) (H : List Entry) (command : Command) (reply : Reply)
@@ -76,5 +77,18 @@ status_told market H expected told true allowed same quotes stands =
 status_told market H expected told false allowed same quotes stands = λ also.
     let yes = status_is_one _ _ _ _ _ _ _ _ (first_refusal market H Status) expected told
     (allowed quotes stands) also in
+    let no : false ≡ true = same ∙ yes in
+    cc
+
+-- what a user is paid, by what the market tells
+pub paid_told : (market : Market) (H : List Entry) (u : List ℕ) (expected told : Reply) (b : Bool)
+    → ((quotes : Quotes) → Stands market H → IsAllowed market H quotes (Paid u) expected)
+    → b ≡ reply_ghosts.eq told expected → JudgesReply market H (Paid u) told (by_words b)
+paid_told market H u expected told true allowed same quotes stands =
+    one_payment (told_payment u (payment_to H (user_number H u)))
+    (first_refusal market H (Paid u)) expected told (allowed quotes stands) (sym same)
+paid_told market H u expected told false allowed same quotes stands = λ also.
+    let yes = payment_is_one (told_payment u (payment_to H (user_number H u)))
+    (first_refusal market H (Paid u)) expected told (allowed quotes stands) also in
     let no : false ≡ true = same ∙ yes in
     cc

@@ -14,6 +14,7 @@ use Rattle.mk_command.specs.declared.command.Command.TheVariants.{User, Deposit,
 use Rattle.mk_command.specs.declared.command.Command.TheVariants.{Limits, Edit, Bounds, Spread}
 use Rattle.mk_command.specs.declared.command.Command.TheVariants.{Worst, Resolve, Settle, Bound}
 use Rattle.mk_command.specs.declared.command.Command.TheVariants.{Prices, Position, Status, Add}
+use Rattle.mk_command.specs.declared.command.Command.TheVariants.{Paid}
 use Rattle.mk_reply.specs.declared.refusal.Refusal.TheVariants.{Beyond, Outside}
 use Rattle.mk_reply.specs.declared.reply.Reply.{Reply}
 use Rattle.mk_reply.specs.declared.reply.Reply.TheVariants as reply
@@ -133,7 +134,9 @@ none_weighs market H (Resolve p) (reply.Resolved q at) edit spread add =
     (pair_named market.network p)
 none_weighs market H (Resolve p) told edit spread add = tt
 none_weighs market H Settle (reply.Settled at payments) edit spread add = (refl, refl)
+none_weighs market H Settle (reply.SettledAll at n total) edit spread add = (refl, refl)
 none_weighs market H Settle told edit spread add = tt
+none_weighs market H (Paid u) told edit spread add = tt
 none_weighs market H (Price q) told edit spread add = tt
 none_weighs market H (Limits u q) told edit spread add = tt
 none_weighs market H (Bounds u v condition) told edit spread add = tt
@@ -179,7 +182,9 @@ no_joining market H (Spread u v condition to seen) told h = tt
 no_joining market H (Resolve p) (reply.Resolved q at) h = mapped (λ (e : Entry). join_in e ≡ None) _ (λ pair. refl) (pair_named market.network p)
 no_joining market H (Resolve p) told h = tt
 no_joining market H Settle (reply.Settled at payments) h = refl
+no_joining market H Settle (reply.SettledAll at n total) h = refl
 no_joining market H Settle told h = tt
+no_joining market H (Paid u) told h = tt
 no_joining market H (Price q) told h = tt
 no_joining market H (Limits u q) told h = tt
 no_joining market H (Bounds u v condition) told h = tt
@@ -211,6 +216,7 @@ same_places market H quotes (Spread u v condition to seen) told h = refl
 same_places market H quotes (Worst u) told h = refl
 same_places market H quotes (Resolve p) told h = refl
 same_places market H quotes Settle told h = refl
+same_places market H quotes (Paid u) told h = refl
 same_places market H quotes Bound told h = refl
 same_places market H quotes (Prices v condition) told h = refl
 same_places market H quotes (Position u v condition) told h = refl
@@ -244,6 +250,8 @@ places market H quotes (Spread u v condition to seen) told h = other_places mark
 places market H quotes (Worst u) told h = other_places market H quotes (Worst u) told (λ v e. cc) h
 places market H quotes (Resolve p) told h = other_places market H quotes (Resolve p) told (λ v e. cc) h
 places market H quotes Settle told h = other_places market H quotes Settle told (λ v e. cc) h
+places market H quotes (Paid u) told h =
+    other_places market H quotes (Paid u) told (λ v e. cc) h
 places market H quotes Bound told h = other_places market H quotes Bound told (λ v e. cc) h
 places market H quotes (Prices v condition) told h = other_places market H quotes (Prices v condition) told (λ v e. cc) h
 places market H quotes (Position u v condition) told h = other_places market H quotes (Position u v condition) told (λ v e. cc) h

@@ -72,7 +72,7 @@ other_rest W payments entries n i entry inside stands other before =
     none_joins (Withdraw user bits) rest other = refl
     none_joins (Trade user ratio) rest other = refl
     none_joins (Resolve pair) rest other = refl
-    none_joins Settle rest other = refl
+    none_joins (Settle payments) rest other = refl
     none_joins (Add question) rest other = refl
 
 -- a user joined, and no payment is left, or the next is to another

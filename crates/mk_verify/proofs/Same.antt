@@ -5,14 +5,15 @@ use Rattle.std.proofs.lemmas.Bool.{eqb-true, eq-eqb}
 use Rattle.arrayvec.specs.ArrayVec.{ArrayVec}
 use Rattle.mk_net.specs.declared.words.PairText.{PairText}
 use Rattle.mk_net.specs.Texts.{same_text}
-use Rattle.mk_net.specs.inner.TextLaws.{both, equal_of_same_text}
+use Rattle.mk_net.specs.inner.TextLaws.{both, equal_of_same_text, same_text_of_equal}
 use Rattle.mk_reply.specs.declared.refusal.Refusal.{Refusal}
 use Rattle.mk_reply.specs.declared.refusal.Refusal.TheVariants.{Syntax, Long, Settled, User, Exists, Users, Unknown, Twice, Stale, Resolved, Impossible, Wide, Range, Full, Beyond, Short, Unresolved, NoVariable, Numbers, Sum, Outside, Sure, Memory}
 use Rattle.mk_reply.specs.declared.refusal.Refusal.TheVariants.{Variables, Taken, ValueTwice}
 use Rattle.mk_reply.specs.declared.refusal.Refusal.TheVariants.{RowCount, RowWidth, Cells, Link}
-use Rattle.mk_reply.specs.declared.refusal.Refusal.TheVariants.{Uncovered, NotRunning}
+use Rattle.mk_reply.specs.declared.refusal.Refusal.TheVariants.{Uncovered, NotRunning, Unsettled}
 use Rattle.mk_reply.specs.declared.reply.Reply.{Reply}
-use Rattle.mk_reply.specs.declared.reply.Reply.TheVariants.{Status, Refused}
+use Rattle.mk_reply.specs.declared.payments.Payment.{Payment}
+use Rattle.mk_reply.specs.declared.reply.Reply.TheVariants.{Status, Paid, Refused}
 use Rattle.mk_reply.specs.contracts.refusal.RefusalPartialEq.TheImpl.{ghosts}
 use Rattle.mk_reply.specs.contracts.reply.ReplyPartialEq.TheImpl.{ghosts as reply_ghosts}
 use Rattle.mk_reply.specs.contracts.refusal.RefusalEq.TheImpl.Laws.{laws-law}
@@ -72,6 +73,7 @@ same_refusal (Full a) (Full b) same = ap Full (eqb-true a b same)
 same_refusal (Beyond a) (Beyond b) same = ap Beyond (same_limits a b same)
 same_refusal (Short a) (Short b) same = ap Short (eqb-true a b same)
 same_refusal (Unresolved a) (Unresolved b) same = ap Unresolved (equal_of_same_text a b same)
+same_refusal Unsettled Unsettled same = refl
 same_refusal (NoVariable a) (NoVariable b) same = ap NoVariable (equal_of_same_text a b same)
 same_refusal (Numbers a) (Numbers b) same = ap Numbers (eqb-true a b same)
 same_refusal (Sum a) (Sum b) same = ap Sum (eqb-true a b same)
@@ -100,7 +102,7 @@ other_refusal a b other same =
     let no : true ≡ false = sym yes ∙ other in
     absurd (cc)
 
--- ---- the status, or the refusal that comes for it
+-- ---- the status, or what a user is paid, or the refusal that comes for it
 
 -- the first of some tests and the others
 passed : (a b : ℕ) (rest : Bool) → (a == b) && rest ≡ true → (a ≡ b) × (rest ≡ true)
@@ -141,19 +143,83 @@ status_itself a b c d e f g h = rw (
 refused_itself : (why : Refusal) → reply_ghosts.eq (Refused why) (Refused why) ≡ true
 refused_itself why = refusal_itself why
 
+abbrev record_of : List ℕ → ℕ → ℕ → ℕ → Payment
+record_of user low high paid = record { user = user; low = low; high = high; paid = paid }
+
+same_payment : (a b : Payment)
+    → same_text a.user b.user && ((a.low == b.low) && ((a.high == b.high) && (a.paid == b.paid)))
+    ≡ true → a ≡ b
+same_payment a b same =
+    let p = both (same_text a.user b.user) _ same in
+    let q = passed a.low b.low _ p.1 in
+    let r = passed a.high b.high _ q.1 in
+    let s : a.paid ≡ b.paid = eqb-true a.paid b.paid r.1 in
+    payments_alike a.user b.user a.low b.low a.high b.high a.paid b.paid
+    (equal_of_same_text a.user b.user p.0) q.0 r.0 s
+  where
+    payments_alike : (user user' : List ℕ) (low low' high high' paid paid' : ℕ) → user ≡ user'
+        → low ≡ low' → high ≡ high' → paid ≡ paid'
+        → record_of user low high paid ≡ record_of user' low' high' paid'
+    payments_alike user user' low low' high high' paid paid' p q r s = rw (p, q, r, s) refl
+
+same_paid : (told : Reply) (payment : Payment) → reply_ghosts.eq told (Paid payment) ≡ true
+    → told ≡ Paid payment
+same_paid (Paid a) payment same = ap Paid (same_payment a payment same)
+same_paid told payment same = cc
+
+paid_itself : (payment : Payment) → reply_ghosts.eq (Paid payment) (Paid payment) ≡ true
+paid_itself payment = rw (
+  same_text_of_equal payment.user payment.user refl,
+  eq-eqb payment.low payment.low refl,
+  eq-eqb payment.high payment.high refl,
+  eq-eqb payment.paid payment.paid refl,
+) refl
+
+-- a reply that equals another alone, or the refusal that comes for it
+module _ (reply : Reply) (alike : (told : Reply) → reply_ghosts.eq told reply ≡ true → told ≡ reply)
+    (itself : reply_ghosts.eq reply reply ≡ true) where
+  one_reply : (o : Option Refusal) (expected told : Reply)
+      → MatchOption o (expected ≡ reply) (λ why. expected ≡ Refused why)
+      → reply_ghosts.eq told expected ≡ true
+      → MatchOption o (told ≡ reply) (λ why. told ≡ Refused why)
+  one_reply None expected told is same =
+      alike told (subst (λ (r : Reply). reply_ghosts.eq told r ≡ true) is same)
+  one_reply (Some why) expected told is same = same_refused told why
+      (subst (λ (r : Reply). reply_ghosts.eq told r ≡ true) is same)
+
+  reply_is_one : (o : Option Refusal) (expected told : Reply)
+      → MatchOption o (expected ≡ reply) (λ why. expected ≡ Refused why)
+      → MatchOption o (told ≡ reply) (λ why. told ≡ Refused why)
+      → reply_ghosts.eq told expected ≡ true
+  reply_is_one None expected told is also = rw (is, also) itself
+  reply_is_one (Some why) expected told is also = rw (is, also) (refused_itself why)
+
 module _ (a b c d e f g h : ℕ) where
   pub one_status : (o : Option Refusal) (expected told : Reply)
       → MatchOption o (expected ≡ Status a b c d e f g h) (λ why. expected ≡ Refused why)
       → reply_ghosts.eq told expected ≡ true
       → MatchOption o (told ≡ Status a b c d e f g h) (λ why. told ≡ Refused why)
-  one_status None expected told is same = same_status told a b c d e f g h
-      (subst (λ (r : Reply). reply_ghosts.eq told r ≡ true) is same)
-  one_status (Some why) expected told is same = same_refused told why
-      (subst (λ (r : Reply). reply_ghosts.eq told r ≡ true) is same)
+  one_status = one_reply (Status a b c d e f g h) (λ told. same_status told a b c d e f g h)
+      (status_itself a b c d e f g h)
 
   pub status_is_one : (o : Option Refusal) (expected told : Reply)
       → MatchOption o (expected ≡ Status a b c d e f g h) (λ why. expected ≡ Refused why)
       → MatchOption o (told ≡ Status a b c d e f g h) (λ why. told ≡ Refused why)
       → reply_ghosts.eq told expected ≡ true
-  status_is_one None expected told is also = rw (is, also) (status_itself a b c d e f g h)
-  status_is_one (Some why) expected told is also = rw (is, also) (refused_itself why)
+  status_is_one = reply_is_one (Status a b c d e f g h) (λ told. same_status told a b c d e f g h)
+      (status_itself a b c d e f g h)
+
+module _ (payment : Payment) where
+  pub one_payment : (o : Option Refusal) (expected told : Reply)
+      → MatchOption o (expected ≡ Paid payment) (λ why. expected ≡ Refused why)
+      → reply_ghosts.eq told expected ≡ true
+      → MatchOption o (told ≡ Paid payment) (λ why. told ≡ Refused why)
+  one_payment =
+      one_reply (Paid payment) (λ told. same_paid told payment) (paid_itself payment)
+
+  pub payment_is_one : (o : Option Refusal) (expected told : Reply)
+      → MatchOption o (expected ≡ Paid payment) (λ why. expected ≡ Refused why)
+      → MatchOption o (told ≡ Paid payment) (λ why. told ≡ Refused why)
+      → reply_ghosts.eq told expected ≡ true
+  payment_is_one =
+      reply_is_one (Paid payment) (λ told. same_paid told payment) (paid_itself payment)

@@ -1,7 +1,9 @@
 -- Judgements of settlements.
-use Rattle.std.proofs.Common.{◌≡◌, ℕ, ◌+◌, Bool, List, [], ◌∷◌, length, map, None, refl, sym, subst, ◌∙◌, arith}
+use Rattle.std.proofs.Common.{◌≡◌, ℕ, ◌+◌, ◌≤◌, inl, inr, Bool, List, [], ◌∷◌, length, map, None, refl, sym, ap, subst, ◌∙◌, arith}
+use Rattle.std.proofs.lemmas.List.{length-map}
 use Rattle.std.proofs.lemmas.Option.{slice_get_within}
 use Rattle.std.specs.List.{AllZip, enumerate_from}
+use Rattle.mk_net.specs.Bounds.{max_payments}
 use Rattle.mk_net.specs.Network.{Variable}
 use Rattle.mk_states.specs.Events.{always}
 use Rattle.mk_exact.specs.Existing.{HasOutcome}
@@ -13,7 +15,8 @@ use Rattle.mk_command.specs.declared.command.Command.TheVariants.{Settle}
 use Rattle.mk_reply.specs.declared.payments.Payment.{Payment}
 use Rattle.mk_reply.specs.declared.reply.Reply.{Reply}
 use Rattle.mk_reply.specs.declared.reply.Reply.TheVariants.{Settled}
-use Rattle.mk_rules.specs.Answers.{IsPayment, IsSettlement}
+use Rattle.mk_rules.specs.Answers.{IsPayment, IsSettlement, settled_by_rule}
+use Rattle.mk_rules.proofs.Paying.{SettlingIs, settling_is}
 use Rattle.mk_rules.specs.Refusals.{first_refusal}
 use Rattle.mk_judge.specs.declared.judged.Judged.{Judged}
 use Rattle.mk_judge.specs.declared.judged.Judged.TheVariants.{Wrong}
@@ -66,23 +69,30 @@ module _ (market : Market) (H : List Entry) where
 
   module _ (none : first_refusal market H Settle ≡ None) where
     pub settled_told : (payments : List Payment) (j : Judged) → HasOutcome network H
-        → map named payments ≡ users H
+        → map named payments ≡ users H → length payments ≤ max_payments
         → ((state : List ℕ) → IsSound network H → possible_states network H always ≡ state ∷ []
         → Judges j (PayEach market H state payments) (IsPaymentOpen market H payments))
         → JudgesReply market H Settle (Settled (revision H + 1) payments) j
-    settled_told payments j outcome names judged quotes stands =
+    settled_told payments j outcome names few judged quotes stands =
         let told = Settled (revision H + 1) payments in
         let state = outcome.state in
         judges_answer market H quotes Settle told j _ none
         (judges_as j (PayEach market H state payments) _ _ _
         (λ each. record {
-          state = state;
-          one_state = outcome.one_state;
-          payments = payments;
-          printed = refl;
-          paid = paid_listed state payments names each;
-        }) from (λ o. o) (judged state stands.sound outcome.one_state))
+          listed = λ _. record {
+            state = state;
+            one_state = outcome.one_state;
+            payments = payments;
+            printed = refl;
+            paid = paid_listed state payments names each;
+          };
+          summed = λ many. absurd (omega (arith, many, few_users));
+        }) (λ h. from (h.listed few_users)) (λ o. o) (judged state stands.sound outcome.one_state))
       where
+        few_users : length (users H) ≤ max_payments
+        few_users = subst (λ (n : ℕ). n ≤ max_payments)
+            (sym (length-map payments named) ∙ ap (λ (us : List (List ℕ)). length us) names) few
+
         from : IsSettlement network H market.points_per_bit (Settled (revision H + 1) payments)
             → PayEach market H outcome.state payments
         from h =
@@ -96,12 +106,17 @@ module _ (market : Market) (H : List Entry) where
 
     pub not_settled : (reply : Reply)
         → ((payments : List Payment) → map named payments ≡ users H
-        → reply ≡ Settled (revision H + 1) payments → ⊥) → JudgesReply market H Settle reply Wrong
-    not_settled reply other quotes stands =
+        → reply ≡ Settled (revision H + 1) payments → ⊥) → (reply ≡ settled_by_rule market H → ⊥)
+        → JudgesReply market H Settle reply Wrong
+    not_settled reply other neither quotes stands =
         judges_answer market H quotes Settle reply Wrong (IsOpen market H quotes Settle reply) none
-        (λ h. other h.payments (numbered_names
-        (IsPayment network H market.points_per_bit h.state) named (λ k y p its. its.name) 0
-        (users H) h.payments h.paid) h.printed)
+        (λ h. never (settling_is market H reply h))
+      where
+        never : SettlingIs market H reply → ⊥
+        never (inl (few, h)) = other h.payments (numbered_names
+            (IsPayment network H market.points_per_bit h.state) named (λ k y p its. its.name) 0
+            (users H) h.payments h.paid) h.printed
+        never (inr (many, summed)) = neither summed
 
   -- of the payments before a place
   abbrev pub JudgesPaid : List ℕ → List Payment → Judged → ℕ → Type 0

@@ -72,7 +72,8 @@ weight_times network H (Deposit user bits) s = weight_kept network H (Deposit us
 weight_times network H (Withdraw user bits) s = weight_kept network H (Withdraw user bits) s refl ∙ sym (mul-one (weight network H s))
 weight_times network H (Trade user ratio) s = weight_traded network H user ratio s
 weight_times network H (Resolve pair) s = weight_kept network H (Resolve pair) s refl ∙ sym (mul-one (weight network H s))
-weight_times network H Settle s = weight_kept network H Settle s refl ∙ sym (mul-one (weight network H s))
+weight_times network H (Settle payments) s =
+    weight_kept network H (Settle payments) s refl ∙ sym (mul-one (weight network H s))
 weight_times network H (Add addition) s =
     weight_kept network H (Add addition) s refl ∙ sym (mul-one (weight network H s))
 
@@ -87,7 +88,7 @@ times_positive network joined (Deposit user bits) s is_state h = omega arith
 times_positive network joined (Withdraw user bits) s is_state h = omega arith
 times_positive network joined (Trade user ratio) s is_state h = ratio_pos network joined s is_state (record { user = user; ratio = ratio }) h.0
 times_positive network joined (Resolve pair) s is_state h = omega arith
-times_positive network joined Settle s is_state h = omega arith
+times_positive network joined (Settle payments) s is_state h = omega arith
 times_positive network joined (Add addition) s is_state h = omega arith
 
 -- behind a change that is no trade the weights are as they were
@@ -171,7 +172,7 @@ no_addition market (Deposit user bits) none = refl
 no_addition market (Withdraw user bits) none = refl
 no_addition market (Trade user ratio) none = refl
 no_addition market (Resolve pair) none = refl
-no_addition market Settle none = refl
+no_addition market (Settle payments) none = refl
 no_addition market (Add addition) none = absurd (cc)
 
 -- a history that is small was small before its last change, in the market as it stood
@@ -189,8 +190,8 @@ small_before market H (Trade user ratio) net proper later small =
     small_beside market.network H (Trade user ratio) later small
 small_before market H (Resolve pair) net proper later small =
     small_beside market.network H (Resolve pair) later small
-small_before market H Settle net proper later small =
-    small_beside market.network H Settle later small
+small_before market H (Settle payments) net proper later small =
+    small_beside market.network H (Settle payments) later small
 small_before market H (Add addition) net proper later small =
     let network = market.network ++ addition.variable ∷ [] in
     lt_of_le_of_lt (weights_more market.network addition.variable H net proper)

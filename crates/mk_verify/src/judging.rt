@@ -13,7 +13,9 @@ use crate::editing::{AskedEdit, judge_edit_reply, judge_limits_reply};
 use crate::known::Known;
 use crate::numbers::{judge_bound_reply, judge_price_reply, judge_withdrawal, judge_worst_reply};
 use crate::numbers_of_values::{judge_position, judge_prices};
-use crate::plain::{judge_addition, judge_deposit, judge_join, judge_resolution, judge_status};
+use crate::plain::{
+    judge_addition, judge_deposit, judge_join, judge_paid, judge_resolution, judge_status,
+};
 use crate::settlement::judge_settlement;
 use crate::spreading::{AskedSpread, judge_bounds_reply, judge_spread_reply};
 use mk_command::CommandRef;
@@ -70,6 +72,7 @@ pub fn judge<P: TreeGraded<SumProd>, A: TreeGraded<MinProd>>(
         CommandRef::Settle => judge_settlement(market, small, reply),
         CommandRef::Bound => judge_bound_reply(market, reply),
         CommandRef::Status => judge_status(market, reply),
+        CommandRef::Paid { user } => judge_paid(market, user, reply),
         CommandRef::Add { addition } => judge_addition(market, addition, reply),
         CommandRef::Bounds { .. }
         | CommandRef::Spread { .. }

@@ -22,7 +22,7 @@ pub fn is_next<P: Engine<SumProd>, A: Engine<MinProd>>(market: &Market<P, A>, at
 }
 
 /// What is judged by words alone is never left open.
-fn judge_words(allowed: bool) -> Judged
+pub fn judge_words(allowed: bool) -> Judged
     ensures { result ≡ by_words allowed }
 {
     if allowed {
@@ -169,5 +169,18 @@ pub fn judge_status<P: Engine<SumProd>, A: Engine<MinProd>>(
         result }
 {
     let expected = market.status();
+    judge_words(reply == &expected)
+}
+
+/// Judges a reply to `paid`: what the market itself would answer.
+pub fn judge_paid<P: Engine<SumProd>, A: Engine<MinProd>>(
+    market: &Market<P, A>,
+    name: &Name,
+    reply: &Reply,
+) -> Judged
+    ensures { JudgesReply market.now.market (market.now.standing).history (command.Paid name.now)
+        reply.now result }
+{
+    let expected = market.paid(name);
     judge_words(reply == &expected)
 }

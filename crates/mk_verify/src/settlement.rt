@@ -1,5 +1,7 @@
 //! Judgements of replies to `settle`.
 ghost use Rattle.std.specs.Prelude.{◌≡◌, ◌<◌, ◌^◌, ◌↔◌, ℕ, List, [], ◌∷◌, true, length, map, All};
+ghost use Rattle.std.specs.Prelude.{None};
+ghost use Rattle.mk_net.specs.Bounds.{max_payments};
 ghost use Rattle.mk_states.specs.Events.{always};
 ghost use Rattle.mk_exact.specs.Existing.{HasOutcome};
 ghost use Rattle.mk_exact.specs.History.{users};
@@ -8,21 +10,25 @@ ghost use Rattle.mk_exact.specs.Weight.{possible_states};
 ghost use Rattle.mk_command.specs.declared.command.Command.TheVariants as command;
 ghost use Rattle.mk_record.specs.Entries.{changes};
 ghost use Rattle.mk_reply.specs.Replies.{IsReply, IsPayment as IsReadPayment};
+ghost use Rattle.mk_reply.specs.declared.reply.Reply.TheVariants.{SettledAll};
+ghost use Rattle.mk_rules.specs.Answers.{settled_by_rule};
+ghost use Rattle.mk_rules.specs.Refusals.{first_refusal};
 ghost use Rattle.mk_judge.specs.Judged.{Judges};
 ghost use Rattle.mk_verify.specs.Clear.{IsCashOpen, IsPaymentOpen};
 ghost use Rattle.mk_verify.specs.inner.Judging.{JudgesReply, TellsSmall, PaysCash, PayEach};
 ghost use Rattle.mk_verify.specs.inner.Judging.{IsPaymentLeftOpen};
 
-use crate::plain::is_next;
+use crate::plain::{is_next, judge_words};
 use crate::refused::judge_refused;
 use mk_engine::TreeGraded;
-use mk_evidence::{payment_evidence, refused_settlement};
+use mk_evidence::{joined, payment_evidence, refused_settlement};
 use mk_judge::{Judged, judge_cash};
 use mk_market::{Entry, Market};
 use mk_reply::{Payment, Reply};
 use mk_semiring::{MinProd, SumProd};
 
-/// Judges a reply to `settle`: each user is paid in the order of joining, by the next change.
+/// Judges a reply to `settle`: each user is paid in the order of joining, by the next change. Of
+/// more users than it lists payments to, it tells how many they are, and what all are paid by rule.
 pub fn judge_settlement<P: TreeGraded<SumProd>, A: TreeGraded<MinProd>>(
     market: &mut Market<P, A>,
     small: bool,
@@ -40,9 +46,33 @@ pub fn judge_settlement<P: TreeGraded<SumProd>, A: TreeGraded<MinProd>>(
             Reply::Settled { at, payments }
                 if is_next(market, *at) && are_to_users(market.history(), payments.rows()) =>
                 judge_payments(market, small, payments.rows()),
+            Reply::SettledAll { at, users, total } => {
+                judge_words(tells_total(market, *at, *users, *total))
+            }
             _ => Judged::Wrong,
         },
     }
+}
+
+/// Whether a settlement by rule tells the revision behind the next change, how many users joined,
+/// and what all of them are paid.
+fn tells_total<P: TreeGraded<SumProd>, A: TreeGraded<MinProd>>(
+    market: &mut Market<P, A>,
+    at: u64,
+    users: u32,
+    total: u64,
+) -> bool
+    requires unrefused { None ≡ first_refusal market.old.market (market.old.standing).history
+        command.Settle }
+    requires many { max_payments < users }
+    ensures same { market.new ≡ market.old }
+    ensures tells { (result ≡ true) ↔ (SettledAll at users total
+        ≡ settled_by_rule market.old.market (market.old.standing).history) }
+{
+    if !is_next(market, at) || users != joined(market) {
+        return false;
+    }
+    total == market.total_by_rule()
 }
 
 /// Whether there is one payment to each user, in the order of joining.

@@ -19,7 +19,7 @@ returns-clause-evidence g c =
     let i = c.market.inside in let H = i.journal.history in
     let m = rows_of i.file.net i.file.tree H in
     let opened = is_open g.P.Engine.stands_for g.A.Engine.stands_for g.A.Engine.plan_for i.file
-    i.prices i.rows i.plan i.users i.ledger i.journal i.payments c.market.invariant in
+    i.prices i.rows i.plan i.users i.ledger i.journal i.payments i.till c.market.invariant in
     rw (← c.market.view_is) (
       ap (λ (o : Option Refusal). first_of (o ∷ [])) (sym c.in_ok-not_settled.ensures),
       c.least_weight_of.ensures.least i.file.tree H (evidence_grade (market_of i.file) H)

@@ -19,14 +19,14 @@ least_of-requires g c =
       user = c.args.user;
       owns = c.market.invariant.owns c.args.user c.assets.result.now c.assets.ensures.value;
       is_open = is_open g.P.Engine.stands_for g.A.Engine.stands_for g.A.Engine.plan_for i.file
-          i.prices i.rows i.plan i.users i.ledger i.journal i.payments c.market.invariant;
+          i.prices i.rows i.plan i.users i.ledger i.journal i.payments i.till c.market.invariant;
     }
 
 pub invariant_of-market : goal.invariant_of-market
 invariant_of-market g c =
     let i = c.market.inside in
     position_kept g.P.Engine.stands_for g.A.Engine.stands_for g.A.Engine.plan_for i.file i.prices
-    i.rows i.plan i.users i.ledger i.journal i.payments c.market.invariant i.prices
+    i.rows i.plan i.users i.ledger i.journal i.payments i.till c.market.invariant i.prices
     (λ m stands. stands) c.args.user c.assets.result.now c.least_of.new.assets
     c.assets.ensures.value c.least_of.ensures.kept
 
@@ -42,7 +42,7 @@ returns-clause-evidence g c =
     let i = c.market.inside in let H = i.journal.history in
     let m = gains_of i.file.net i.file.tree H c.args.user in
     let opened = is_open g.P.Engine.stands_for g.A.Engine.stands_for g.A.Engine.plan_for i.file
-    i.prices i.rows i.plan i.users i.ledger i.journal i.payments c.market.invariant in
+    i.prices i.rows i.plan i.users i.ledger i.journal i.payments i.till c.market.invariant in
     rw (← c.market.view_is) (payment_found i.file H c.args.user c.least_of.result
     (c.least_of.ensures.judged i.file.net i.file.tree H c.args.user
     (evidence_grade (market_of i.file) H)

@@ -38,7 +38,7 @@ sure_factors_of-requires g c =
       user = found.request.user;
       owns = c.market.invariant.owns found.request.user c.assets.result.now c.assets.ensures.value;
       is_open = is_open g.P.Engine.stands_for g.A.Engine.stands_for g.A.Engine.plan_for i.file
-          i.prices i.rows i.plan i.users i.ledger i.journal i.payments c.market.invariant;
+          i.prices i.rows i.plan i.users i.ledger i.journal i.payments i.till c.market.invariant;
       answered = found.ensures.question.answered;
       held = λ value. value_is_held i.file.tree found.request.home
           (spread_in found.request.question) value found.ensures.home;
@@ -47,10 +47,11 @@ sure_factors_of-requires g c =
 pub invariant_of-market : goal.invariant_of-market
 invariant_of-market g c =
     let i = c.market.inside in let found = c.in_ok-request in
-    refiled _ _ _ _ _ _ _ _ g.P.Engine.stands_for g.A.Engine.stands_for g.A.Engine.plan_for _ _ _ _
-    _ _ _
+    refiled _ _ _ _ _ _ _ _ _ _ _ _ g.P.Engine.stands_for g.A.Engine.stands_for g.A.Engine.plan_for
+    _ _ _ _
+    _ _ _ _
     (position_kept g.P.Engine.stands_for g.A.Engine.stands_for g.A.Engine.plan_for i.file i.prices
-    i.rows i.plan i.users i.ledger i.journal i.payments c.market.invariant i.prices
+    i.rows i.plan i.users i.ledger i.journal i.payments i.till c.market.invariant i.prices
     (λ m stands. stands) found.request.user
     c.assets.result.now c.sure_factors_of.new.assets c.assets.ensures.value
     c.sure_factors_of.ensures.kept_assets)
@@ -60,7 +61,7 @@ refuse_condition-requires g c =
     let i = c.market.inside in let found = c.in_ok-request in let H = i.journal.history in
     let of = g.A.Engine.grade_of (gains_of i.file.net i.file.tree H found.request.user) in
     let opened = is_open g.P.Engine.stands_for g.A.Engine.stands_for g.A.Engine.plan_for i.file
-    i.prices i.rows i.plan i.users i.ledger i.journal i.payments c.market.invariant in
+    i.prices i.rows i.plan i.users i.ledger i.journal i.payments i.till c.market.invariant in
     let command = Position c.args.name.now c.args.variable.now c.args.condition.now in
     let none = found.ensures.refusal c.args.condition.now (sym c.as_slice-words.ensures.value) in
     let known = (none_applies (refusals_by_record (market_of i.file) H command) (sym none)).1.1.1.0
@@ -79,10 +80,11 @@ refuse_condition-requires g c =
 pub invariant_of-market-in-None : goal.invariant_of-market-in-None
 invariant_of-market-in-None g c =
     let i = c.market.inside in let found = c.in_ok-request in
-    refiled _ _ _ _ _ _ _ _ g.P.Engine.stands_for g.A.Engine.stands_for g.A.Engine.plan_for _ _ _ _
-    _ _ _
+    refiled _ _ _ _ _ _ _ _ _ _ _ _ g.P.Engine.stands_for g.A.Engine.stands_for g.A.Engine.plan_for
+    _ _ _ _
+    _ _ _ _
     (position_kept g.P.Engine.stands_for g.A.Engine.stands_for g.A.Engine.plan_for i.file i.prices
-    i.rows i.plan i.users i.ledger i.journal i.payments c.market.invariant
+    i.rows i.plan i.users i.ledger i.journal i.payments i.till c.market.invariant
     c.refuse_condition.new.prices c.refuse_condition.ensures.kept found.request.user
     c.assets.result.now c.sure_factors_of.new.assets c.assets.ensures.value
     c.sure_factors_of.ensures.kept_assets)
@@ -99,7 +101,7 @@ returns-in-Some-clause-evidence g c =
     let i = c.market.inside in let found = c.in_ok-request in let H = i.journal.history in
     let m = gains_of i.file.net i.file.tree H found.request.user in
     let opened = is_open g.P.Engine.stands_for g.A.Engine.stands_for g.A.Engine.plan_for i.file
-    i.prices i.rows i.plan i.users i.ledger i.journal i.payments c.market.invariant in
+    i.prices i.rows i.plan i.users i.ledger i.journal i.payments i.till c.market.invariant in
     let spread = spread_in found.request.question in
     let question = question_for i.file H c.args.variable.now c.as_slice-words.result.now
     c.args.condition.now spread c.as_slice-words.ensures.value found.ensures.question in
@@ -125,7 +127,7 @@ returns-in-None-clause-evidence g c =
     let i = c.market.inside in let found = c.in_ok-request in let H = i.journal.history in
     let of = g.A.Engine.grade_of (gains_of i.file.net i.file.tree H found.request.user) in
     let opened = is_open g.P.Engine.stands_for g.A.Engine.stands_for g.A.Engine.plan_for i.file
-    i.prices i.rows i.plan i.users i.ledger i.journal i.payments c.market.invariant in
+    i.prices i.rows i.plan i.users i.ledger i.journal i.payments i.till c.market.invariant in
     let spread = spread_in found.request.question in
     let command = Position c.args.name.now c.args.variable.now c.args.condition.now in
     let question = question_for i.file H c.args.variable.now c.as_slice-words.result.now

@@ -35,7 +35,7 @@ price_bounds_of-requires g c =
       history = i.journal.history;
       stands = c.market.invariant.prices_stand;
       is_open = is_open g.P.Engine.stands_for g.A.Engine.stands_for g.A.Engine.plan_for i.file
-          i.prices i.rows i.plan i.users i.ledger i.journal i.payments c.market.invariant;
+          i.prices i.rows i.plan i.users i.ledger i.journal i.payments i.till c.market.invariant;
       answered = found.ensures.question.answered;
       held = home_is_held i.file.tree found.home (pairs_asked found.asked) found.ensures.home;
     }
@@ -45,7 +45,7 @@ refuse_condition-requires g c =
     let i = c.market.inside in let found = c.in_ok-asked in let H = i.journal.history in
     let of = grade_together (g.P.Engine.grade_of (weights_of i.file.net i.file.tree H)) in
     let opened = is_open g.P.Engine.stands_for g.A.Engine.stands_for g.A.Engine.plan_for i.file
-    i.prices i.rows i.plan i.users i.ledger i.journal i.payments c.market.invariant in
+    i.prices i.rows i.plan i.users i.ledger i.journal i.payments i.till c.market.invariant in
     let bounds = c.in-None.ensures.bounds i.file.tree H of c.market.invariant.prices_stand opened
     found.ensures.question.answered (le_refl of) in
     can_refuse_condition g.P.Engine.stands_for c.price_bounds_of.new.prices i.file.net i.file.tree H
@@ -62,7 +62,7 @@ returns-in-Some-clause-evidence g c =
     let i = c.market.inside in let found = c.in_ok-asked in let H = i.journal.history in
     let m = weights_of i.file.net i.file.tree H in
     let opened = is_open g.P.Engine.stands_for g.A.Engine.stands_for g.A.Engine.plan_for i.file
-    i.prices i.rows i.plan i.users i.ledger i.journal i.payments c.market.invariant in
+    i.prices i.rows i.plan i.users i.ledger i.journal i.payments i.till c.market.invariant in
     asked_in c.args.market.now _ c.market.view_is (Price c.args.question.now) (Ok c.in-Some.bounds)
     (λ (market : Market) (history : List Entry). IsPriceEvidence market history
     c.args.question.now)
@@ -77,7 +77,7 @@ returns-in-None-clause-evidence g c =
     let i = c.market.inside in let found = c.in_ok-asked in let H = i.journal.history in
     let of = grade_together (g.P.Engine.grade_of (weights_of i.file.net i.file.tree H)) in
     let opened = is_open g.P.Engine.stands_for g.A.Engine.stands_for g.A.Engine.plan_for i.file
-    i.prices i.rows i.plan i.users i.ledger i.journal i.payments c.market.invariant in
+    i.prices i.rows i.plan i.users i.ledger i.journal i.payments i.till c.market.invariant in
     let bounds = c.in-None.ensures.bounds i.file.tree H of c.market.invariant.prices_stand opened
     found.ensures.question.answered (le_refl of) in
     stopped_in c.args.market.now _ c.market.view_is (Price c.args.question.now)

@@ -34,7 +34,7 @@ value_price_bounds_of-requires g c =
       history = i.journal.history;
       stands = c.market.invariant.prices_stand;
       is_open = is_open g.P.Engine.stands_for g.A.Engine.stands_for g.A.Engine.plan_for i.file
-          i.prices i.rows i.plan i.users i.ledger i.journal i.payments c.market.invariant;
+          i.prices i.rows i.plan i.users i.ledger i.journal i.payments i.till c.market.invariant;
       answered = found.ensures.question.answered;
       held = λ value. value_is_held i.file.tree found.home (spread_in found.asked) value
           found.ensures.home;
@@ -45,7 +45,7 @@ refuse_condition-requires g c =
     let i = c.market.inside in let found = c.in_ok-asked in let H = i.journal.history in
     let of = grade_together (g.P.Engine.grade_of (weights_of i.file.net i.file.tree H)) in
     let opened = is_open g.P.Engine.stands_for g.A.Engine.stands_for g.A.Engine.plan_for i.file
-    i.prices i.rows i.plan i.users i.ledger i.journal i.payments c.market.invariant in
+    i.prices i.rows i.plan i.users i.ledger i.journal i.payments i.till c.market.invariant in
     let command = Prices c.args.variable.now c.args.condition.now in
     let none = found.ensures.refusal c.args.condition.now (sym c.as_slice-words.ensures.value) in
     let known = (none_applies (refusals_by_record (market_of i.file) H command) (sym none)).1.1.0 in
@@ -65,7 +65,7 @@ returns-in-Some-clause-evidence g c =
     let i = c.market.inside in let found = c.in_ok-asked in let H = i.journal.history in
     let m = weights_of i.file.net i.file.tree H in
     let opened = is_open g.P.Engine.stands_for g.A.Engine.stands_for g.A.Engine.plan_for i.file
-    i.prices i.rows i.plan i.users i.ledger i.journal i.payments c.market.invariant in
+    i.prices i.rows i.plan i.users i.ledger i.journal i.payments i.till c.market.invariant in
     let spread = spread_in found.asked in
     let question = question_for i.file H c.args.variable.now c.as_slice-words.result.now
     c.args.condition.now spread c.as_slice-words.ensures.value found.ensures.question in
@@ -81,7 +81,7 @@ returns-in-None-clause-evidence g c =
     let i = c.market.inside in let found = c.in_ok-asked in let H = i.journal.history in
     let of = grade_together (g.P.Engine.grade_of (weights_of i.file.net i.file.tree H)) in
     let opened = is_open g.P.Engine.stands_for g.A.Engine.stands_for g.A.Engine.plan_for i.file
-    i.prices i.rows i.plan i.users i.ledger i.journal i.payments c.market.invariant in
+    i.prices i.rows i.plan i.users i.ledger i.journal i.payments i.till c.market.invariant in
     let spread = spread_in found.asked in let command = Prices c.args.variable.now
     c.args.condition.now in
     let question = question_for i.file H c.args.variable.now c.as_slice-words.result.now

@@ -19,13 +19,13 @@ returns-in_err-user-clause-evidence g c =
 
 pub least_of-requires : goal.least_of-requires
 least_of-requires g c =
-    can_find g.P.Engine.stands_for g.A.Engine.stands_for g.A.Engine.plan_for _ _ _ _ _ _ _ _
+    can_find g.P.Engine.stands_for g.A.Engine.stands_for g.A.Engine.plan_for _ _ _ _ _ _ _ _ _
     c.market.invariant c.args.name.now c.in_ok-user.user c.in_ok-user.ensures.user
     c.assets.result.now c.assets.result.now c.assets.ensures.value
 
 pub invariant_of-market : goal.invariant_of-market
 invariant_of-market g c =
-    worst_kept g.P.Engine.stands_for g.A.Engine.stands_for g.A.Engine.plan_for _ _ _ _ _ _ _ _
+    worst_kept g.P.Engine.stands_for g.A.Engine.stands_for g.A.Engine.plan_for _ _ _ _ _ _ _ _ _
     c.market.invariant c.args.name.now c.in_ok-user.user c.in_ok-user.ensures.user
     c.assets.result.now c.least_of.new.assets c.assets.ensures.value c.least_of.ensures.kept
 
@@ -41,7 +41,7 @@ returns-clause-evidence g c =
     let i = c.market.inside in let found = c.in_ok-user in let H = i.journal.history in
     let m = gains_of i.file.net i.file.tree H found.user in
     let opened = is_open g.P.Engine.stands_for g.A.Engine.stands_for g.A.Engine.plan_for i.file
-    i.prices i.rows i.plan i.users i.ledger i.journal i.payments c.market.invariant in
+    i.prices i.rows i.plan i.users i.ledger i.journal i.payments i.till c.market.invariant in
     rw (← c.market.view_is) (worst_found i.file H (Worst c.args.name.now) c.args.name.now found.user
     found.ensures.user (found.ensures.refusal (market_of i.file)) c.least_of.result
     (c.least_of.ensures.judged i.file.net i.file.tree H found.user

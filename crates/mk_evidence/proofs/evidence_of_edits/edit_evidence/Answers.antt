@@ -32,7 +32,8 @@ edit_bounds-requires g c =
     record {
       history = i.journal.history;
       in_use = in_use g.P.Engine.stands_for g.A.Engine.stands_for g.A.Engine.plan_for i.file
-          i.prices i.rows i.plan i.users i.ledger i.journal i.payments c.market.invariant i.prices
+          i.prices i.rows i.plan i.users i.ledger i.journal i.payments i.till c.market.invariant
+          i.prices
           i.users (λ m stands. stands) (λ u h owns. owns);
       user = in_range i.users (users i.journal.history) found.request.user
           c.market.invariant.named found.ensures.user.within;
@@ -44,9 +45,10 @@ pub refuse_decided-requires : goal.refuse_decided-requires
 refuse_decided-requires g c =
     let i = c.market.inside in let found = c.in_ok-request in let H = i.journal.history in
     let opened = is_open g.P.Engine.stands_for g.A.Engine.stands_for g.A.Engine.plan_for i.file
-    i.prices i.rows i.plan i.users i.ledger i.journal i.payments c.market.invariant in
+    i.prices i.rows i.plan i.users i.ledger i.journal i.payments i.till c.market.invariant in
     let used = in_use g.P.Engine.stands_for g.A.Engine.stands_for g.A.Engine.plan_for i.file
-    i.prices i.rows i.plan i.users i.ledger i.journal i.payments c.market.invariant i.prices i.users
+    i.prices i.rows i.plan i.users i.ledger i.journal i.payments i.till c.market.invariant i.prices
+    i.users
     (λ m stands. stands) (λ u h owns. owns) in
     record {
       network = i.file.net;
@@ -69,7 +71,7 @@ pub invariant_of-market : goal.invariant_of-market
 invariant_of-market g c =
     let i = c.market.inside in let made = c.edit_bounds in
     kept_unquoted g.P.Engine.stands_for g.A.Engine.stands_for g.A.Engine.plan_for i.file i.prices
-    made.new.prices i.rows i.plan i.users made.new.users i.ledger i.journal i.payments
+    made.new.prices i.rows i.plan i.users made.new.users i.ledger i.journal i.payments i.till
     c.market.invariant made.ensures.prices made.ensures.names made.ensures.quotes
     made.ensures.assets
 
@@ -83,9 +85,10 @@ pub returns-in-Ok-clause-evidence : goal.returns-in-Ok-clause-evidence
 returns-in-Ok-clause-evidence g c =
     let i = c.market.inside in let found = c.in_ok-request in let H = i.journal.history in
     let opened = is_open g.P.Engine.stands_for g.A.Engine.stands_for g.A.Engine.plan_for i.file
-    i.prices i.rows i.plan i.users i.ledger i.journal i.payments c.market.invariant in
+    i.prices i.rows i.plan i.users i.ledger i.journal i.payments i.till c.market.invariant in
     let used = in_use g.P.Engine.stands_for g.A.Engine.stands_for g.A.Engine.plan_for i.file
-    i.prices i.rows i.plan i.users i.ledger i.journal i.payments c.market.invariant i.prices i.users
+    i.prices i.rows i.plan i.users i.ledger i.journal i.payments i.till c.market.invariant i.prices
+    i.users
     (λ m stands. stands) (λ u h owns. owns) in
     let both = c.in-Ok.ensures.bounds H used found.ensures.question.answered in
     let evidence : EditEvidence = record {
@@ -110,6 +113,7 @@ invariant_of-market-in-Err g c =
     let i = c.market.inside in let made = c.edit_bounds in
     kept_unquoted g.P.Engine.stands_for g.A.Engine.stands_for g.A.Engine.plan_for i.file i.prices
     c.refuse_decided.new.prices i.rows i.plan i.users made.new.users i.ledger i.journal i.payments
+    i.till
     c.market.invariant (λ m stands. c.refuse_decided.ensures.kept m (made.ensures.prices m stands))
     made.ensures.names made.ensures.quotes made.ensures.assets
 
@@ -123,9 +127,10 @@ pub returns-in-Err-clause-evidence : goal.returns-in-Err-clause-evidence
 returns-in-Err-clause-evidence g c =
     let i = c.market.inside in let found = c.in_ok-request in let H = i.journal.history in
     let opened = is_open g.P.Engine.stands_for g.A.Engine.stands_for g.A.Engine.plan_for i.file
-    i.prices i.rows i.plan i.users i.ledger i.journal i.payments c.market.invariant in
+    i.prices i.rows i.plan i.users i.ledger i.journal i.payments i.till c.market.invariant in
     let used = in_use g.P.Engine.stands_for g.A.Engine.stands_for g.A.Engine.plan_for i.file
-    i.prices i.rows i.plan i.users i.ledger i.journal i.payments c.market.invariant i.prices i.users
+    i.prices i.rows i.plan i.users i.ledger i.journal i.payments i.till c.market.invariant i.prices
+    i.users
     (λ m stands. stands) (λ u h owns. owns) in
     stopped_in c.args.market.now _ c.market.view_is (Edit c.args.name.now c.args.question.now
     c.args.to c.args.at)

@@ -33,7 +33,8 @@ spread_bounds-requires g c =
     record {
       history = i.journal.history;
       in_use = in_use g.P.Engine.stands_for g.A.Engine.stands_for g.A.Engine.plan_for i.file
-          i.prices i.rows i.plan i.users i.ledger i.journal i.payments c.market.invariant i.prices
+          i.prices i.rows i.plan i.users i.ledger i.journal i.payments i.till c.market.invariant
+          i.prices
           i.users (λ m stands. stands) (λ u h owns. owns);
       user = in_range i.users (users i.journal.history) found.request.user
           c.market.invariant.named found.ensures.user.within;
@@ -49,16 +50,17 @@ refuse_stopped-requires g c =
     c.args.condition.now spread c.as_slice.ensures.value found.ensures.question in
     let none = found.ensures.refusal c.args.condition.now (sym c.as_slice.ensures.value) in
     let used = in_use g.P.Engine.stands_for g.A.Engine.stands_for g.A.Engine.plan_for i.file
-    i.prices i.rows i.plan i.users i.ledger i.journal i.payments c.market.invariant i.prices i.users
+    i.prices i.rows i.plan i.users i.ledger i.journal i.payments i.till c.market.invariant i.prices
+    i.users
     (λ m stands. stands) (λ u h owns. owns) in
     can_refuse g.P.Engine.stands_for g.A.Engine.stands_for g.A.Engine.plan_for i.file i.prices
-    i.rows i.plan i.users i.ledger i.journal i.payments c.market.invariant
+    i.rows i.plan i.users i.ledger i.journal i.payments i.till c.market.invariant
     c.spread_bounds.new.prices c.spread_bounds.new.users c.args.name.now
     found.request.user found.ensures.user c.args.variable.now c.args.condition.now spread question
     found.request refl found.ensures.home c.as_slice-in-Err.result.now
     c.as_slice-in-Err.ensures.value
     (bounds_known g.P.Engine.stands_for g.A.Engine.stands_for g.A.Engine.plan_for i.file i.prices
-    i.rows i.plan i.users i.ledger i.journal i.payments c.market.invariant
+    i.rows i.plan i.users i.ledger i.journal i.payments i.till c.market.invariant
     c.spread_bounds.new.prices c.spread_bounds.new.users c.args.name.now
     found.request.user found.ensures.user c.args.variable.now c.args.condition.now spread question
     none)
@@ -68,10 +70,11 @@ refuse_stopped-requires g c =
 pub invariant_of-market : goal.invariant_of-market
 invariant_of-market g c =
     let i = c.market.inside in let made = c.spread_bounds in
-    refiled _ _ _ _ _ _ _ _ g.P.Engine.stands_for g.A.Engine.stands_for g.A.Engine.plan_for _ _ _ _
-    _ _ _
+    refiled _ _ _ _ _ _ _ _ _ _ _ _ g.P.Engine.stands_for g.A.Engine.stands_for g.A.Engine.plan_for
+    _ _ _ _
+    _ _ _ _
     (kept_unquoted g.P.Engine.stands_for g.A.Engine.stands_for g.A.Engine.plan_for i.file i.prices
-    made.new.prices i.rows i.plan i.users made.new.users i.ledger i.journal i.payments
+    made.new.prices i.rows i.plan i.users made.new.users i.ledger i.journal i.payments i.till
     c.market.invariant made.ensures.prices made.ensures.names made.ensures.quotes
     made.ensures.assets)
 
@@ -85,14 +88,15 @@ pub returns-in-Ok-clause-evidence : goal.returns-in-Ok-clause-evidence
 returns-in-Ok-clause-evidence g c =
     let i = c.market.inside in let found = c.in_ok-request in let H = i.journal.history in
     let opened = is_open g.P.Engine.stands_for g.A.Engine.stands_for g.A.Engine.plan_for i.file
-    i.prices i.rows i.plan i.users i.ledger i.journal i.payments c.market.invariant in
+    i.prices i.rows i.plan i.users i.ledger i.journal i.payments i.till c.market.invariant in
     let spread = spread_in found.request.question in
     let command = Bounds c.args.name.now c.args.variable.now c.args.condition.now in
     let question = question_for i.file H c.args.variable.now c.as_slice.result.now
     c.args.condition.now spread c.as_slice.ensures.value found.ensures.question in
     let none = found.ensures.refusal c.args.condition.now (sym c.as_slice.ensures.value) in
     let used = in_use g.P.Engine.stands_for g.A.Engine.stands_for g.A.Engine.plan_for i.file
-    i.prices i.rows i.plan i.users i.ledger i.journal i.payments c.market.invariant i.prices i.users
+    i.prices i.rows i.plan i.users i.ledger i.journal i.payments i.till c.market.invariant i.prices
+    i.users
     (λ m stands. stands) (λ u h owns. owns) in
     let each = c.in-Ok.ensures.bounds H used found.ensures.question.answered in
     rw (← c.market.view_is) (
@@ -106,10 +110,12 @@ returns-in-Ok-clause-evidence g c =
 pub invariant_of-market-in-Err : goal.invariant_of-market-in-Err
 invariant_of-market-in-Err g c =
     let i = c.market.inside in let made = c.spread_bounds in
-    refiled _ _ _ _ _ _ _ _ g.P.Engine.stands_for g.A.Engine.stands_for g.A.Engine.plan_for _ _ _ _
-    _ _ _
+    refiled _ _ _ _ _ _ _ _ _ _ _ _ g.P.Engine.stands_for g.A.Engine.stands_for g.A.Engine.plan_for
+    _ _ _ _
+    _ _ _ _
     (kept_unquoted g.P.Engine.stands_for g.A.Engine.stands_for g.A.Engine.plan_for i.file i.prices
     c.refuse_stopped.new.prices i.rows i.plan i.users made.new.users i.ledger i.journal i.payments
+    i.till
     c.market.invariant (λ m stands. c.refuse_stopped.ensures.kept m (made.ensures.prices m stands))
     made.ensures.names made.ensures.quotes made.ensures.assets)
 
@@ -123,14 +129,15 @@ pub returns-in-Err-clause-evidence : goal.returns-in-Err-clause-evidence
 returns-in-Err-clause-evidence g c =
     let i = c.market.inside in let found = c.in_ok-request in let H = i.journal.history in
     let opened = is_open g.P.Engine.stands_for g.A.Engine.stands_for g.A.Engine.plan_for i.file
-    i.prices i.rows i.plan i.users i.ledger i.journal i.payments c.market.invariant in
+    i.prices i.rows i.plan i.users i.ledger i.journal i.payments i.till c.market.invariant in
     let spread = spread_in found.request.question in
     let command = Bounds c.args.name.now c.args.variable.now c.args.condition.now in
     let question = question_for i.file H c.args.variable.now c.as_slice.result.now
     c.args.condition.now spread c.as_slice.ensures.value found.ensures.question in
     let none = found.ensures.refusal c.args.condition.now (sym c.as_slice.ensures.value) in
     let used = in_use g.P.Engine.stands_for g.A.Engine.stands_for g.A.Engine.plan_for i.file
-    i.prices i.rows i.plan i.users i.ledger i.journal i.payments c.market.invariant i.prices i.users
+    i.prices i.rows i.plan i.users i.ledger i.journal i.payments i.till c.market.invariant i.prices
+    i.users
     (λ m stands. stands) (λ u h owns. owns) in
     let by = c.in-Err.ensures.bounds H used found.ensures.question.answered in
     let refused = subst (λ (words : List PairText). IsRefusedFor i.file.net H c.args.variable.now

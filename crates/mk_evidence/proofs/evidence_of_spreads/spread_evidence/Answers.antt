@@ -37,7 +37,8 @@ placed_bounds-requires-clause-found g c =
     record {
       history = i.journal.history;
       in_use = in_use g.P.Engine.stands_for g.A.Engine.stands_for g.A.Engine.plan_for i.file
-          i.prices i.rows i.plan i.users i.ledger i.journal i.payments c.market.invariant i.prices
+          i.prices i.rows i.plan i.users i.ledger i.journal i.payments i.till c.market.invariant
+          i.prices
           i.users (λ m stands. stands) (λ u h owns. owns);
       user = in_range i.users (users i.journal.history) found.request.user
           c.market.invariant.named found.ensures.user.within;
@@ -49,7 +50,7 @@ pub placed_bounds-requires-clause-in_use : goal.placed_bounds-requires-clause-in
 placed_bounds-requires-clause-in_use g c =
     let i = c.market.inside in
     in_use g.P.Engine.stands_for g.A.Engine.stands_for g.A.Engine.plan_for i.file
-    i.prices i.rows i.plan i.users i.ledger i.journal i.payments c.market.invariant i.prices
+    i.prices i.rows i.plan i.users i.ledger i.journal i.payments i.till c.market.invariant i.prices
     i.users (λ m stands. stands) (λ u h owns. owns)
 
 pub placed_bounds-requires-clause-one_each : goal.placed_bounds-requires-clause-one_each
@@ -63,7 +64,7 @@ placed_bounds-requires-clause-one_each g c =
     subst (λ (Xs : List ℕ). length Xs ≡ slice_index (sizes i.file.net) spread.variable)
     (sym c.as_slice-3.ensures.value)
     (one_share_each g.P.Engine.stands_for g.A.Engine.stands_for g.A.Engine.plan_for i.file i.prices
-    i.rows i.plan i.users i.ledger i.journal i.payments c.market.invariant
+    i.rows i.plan i.users i.ledger i.journal i.payments i.till c.market.invariant
     i.prices i.users c.args.name.now found.request.user found.ensures.user c.args.variable.now
     c.args.condition.now spread question c.args.to.now c.args.at none)
 
@@ -76,20 +77,20 @@ refuse_stopped-requires g c =
     let none = found.ensures.refusal c.args.condition.now c.args.to.now
     (sym c.as_slice.ensures.value) (sym c.as_slice-2.ensures.value) in
     let one_each = one_share_each g.P.Engine.stands_for g.A.Engine.stands_for g.A.Engine.plan_for
-    i.file i.prices i.rows i.plan i.users i.ledger i.journal i.payments c.market.invariant
+    i.file i.prices i.rows i.plan i.users i.ledger i.journal i.payments i.till c.market.invariant
     i.prices i.users c.args.name.now found.request.user found.ensures.user c.args.variable.now
     c.args.condition.now spread question c.args.to.now c.args.at none in
     let stopped = subst (λ (Xs : List ℕ). IsStoppedAnew i.file.net i.file.tree H
     found.request.user spread Xs c.in-Err.why) c.as_slice-3.ensures.value c.in-Err.ensures.placed
     in
     can_refuse g.P.Engine.stands_for g.A.Engine.stands_for g.A.Engine.plan_for i.file i.prices
-    i.rows i.plan i.users i.ledger i.journal i.payments c.market.invariant
+    i.rows i.plan i.users i.ledger i.journal i.payments i.till c.market.invariant
     c.placed_bounds.new.prices c.placed_bounds.new.users c.args.name.now
     found.request.user found.ensures.user c.args.variable.now c.args.condition.now spread question
     found.request refl found.ensures.home c.as_slice-in-Err.result.now
     c.as_slice-in-Err.ensures.value
     (spread_known g.P.Engine.stands_for g.A.Engine.stands_for g.A.Engine.plan_for i.file i.prices
-    i.rows i.plan i.users i.ledger i.journal i.payments c.market.invariant
+    i.rows i.plan i.users i.ledger i.journal i.payments i.till c.market.invariant
     c.placed_bounds.new.prices c.placed_bounds.new.users c.args.name.now
     found.request.user found.ensures.user c.args.variable.now c.args.condition.now spread question
     c.args.to.now c.args.at none)
@@ -100,10 +101,11 @@ refuse_stopped-requires g c =
 pub invariant_of-market : goal.invariant_of-market
 invariant_of-market g c =
     let i = c.market.inside in let made = c.placed_bounds in
-    refiled _ _ _ _ _ _ _ _ g.P.Engine.stands_for g.A.Engine.stands_for g.A.Engine.plan_for _ _ _ _
-    _ _ _
+    refiled _ _ _ _ _ _ _ _ _ _ _ _ g.P.Engine.stands_for g.A.Engine.stands_for g.A.Engine.plan_for
+    _ _ _ _
+    _ _ _ _
     (kept_unquoted g.P.Engine.stands_for g.A.Engine.stands_for g.A.Engine.plan_for i.file i.prices
-    made.new.prices i.rows i.plan i.users made.new.users i.ledger i.journal i.payments
+    made.new.prices i.rows i.plan i.users made.new.users i.ledger i.journal i.payments i.till
     c.market.invariant made.ensures.prices made.ensures.names made.ensures.quotes
     made.ensures.assets)
 
@@ -117,7 +119,7 @@ pub returns-in-Ok-clause-evidence : goal.returns-in-Ok-clause-evidence
 returns-in-Ok-clause-evidence g c =
     let i = c.market.inside in let found = c.in_ok-request in let H = i.journal.history in
     let opened = is_open g.P.Engine.stands_for g.A.Engine.stands_for g.A.Engine.plan_for i.file
-    i.prices i.rows i.plan i.users i.ledger i.journal i.payments c.market.invariant in
+    i.prices i.rows i.plan i.users i.ledger i.journal i.payments i.till c.market.invariant in
     let spread = spread_in found.request.question in
     let command = Spread c.args.name.now c.args.variable.now c.args.condition.now c.args.to.now
     c.args.at in
@@ -140,10 +142,12 @@ returns-in-Ok-clause-evidence g c =
 pub invariant_of-market-in-Err : goal.invariant_of-market-in-Err
 invariant_of-market-in-Err g c =
     let i = c.market.inside in let made = c.placed_bounds in
-    refiled _ _ _ _ _ _ _ _ g.P.Engine.stands_for g.A.Engine.stands_for g.A.Engine.plan_for _ _ _ _
-    _ _ _
+    refiled _ _ _ _ _ _ _ _ _ _ _ _ g.P.Engine.stands_for g.A.Engine.stands_for g.A.Engine.plan_for
+    _ _ _ _
+    _ _ _ _
     (kept_unquoted g.P.Engine.stands_for g.A.Engine.stands_for g.A.Engine.plan_for i.file i.prices
     c.refuse_stopped.new.prices i.rows i.plan i.users made.new.users i.ledger i.journal i.payments
+    i.till
     c.market.invariant (λ m stands. c.refuse_stopped.ensures.kept m (made.ensures.prices m stands))
     made.ensures.names made.ensures.quotes made.ensures.assets)
 
@@ -157,7 +161,7 @@ pub returns-in-Err-clause-evidence : goal.returns-in-Err-clause-evidence
 returns-in-Err-clause-evidence g c =
     let i = c.market.inside in let found = c.in_ok-request in let H = i.journal.history in
     let opened = is_open g.P.Engine.stands_for g.A.Engine.stands_for g.A.Engine.plan_for i.file
-    i.prices i.rows i.plan i.users i.ledger i.journal i.payments c.market.invariant in
+    i.prices i.rows i.plan i.users i.ledger i.journal i.payments i.till c.market.invariant in
     let spread = spread_in found.request.question in
     let command = Spread c.args.name.now c.args.variable.now c.args.condition.now c.args.to.now
     c.args.at in
@@ -166,7 +170,7 @@ returns-in-Err-clause-evidence g c =
     let none = found.ensures.refusal c.args.condition.now c.args.to.now
     (sym c.as_slice.ensures.value) (sym c.as_slice-2.ensures.value) in
     let one_each = one_share_each g.P.Engine.stands_for g.A.Engine.stands_for g.A.Engine.plan_for
-    i.file i.prices i.rows i.plan i.users i.ledger i.journal i.payments c.market.invariant
+    i.file i.prices i.rows i.plan i.users i.ledger i.journal i.payments i.till c.market.invariant
     i.prices i.users c.args.name.now found.request.user found.ensures.user c.args.variable.now
     c.args.condition.now spread question c.args.to.now c.args.at none in
     let stopped = subst (λ (Xs : List ℕ). IsStoppedAnew i.file.net i.file.tree H

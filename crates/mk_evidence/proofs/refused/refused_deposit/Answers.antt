@@ -7,8 +7,10 @@ pub returns-in_err-refuse_transfer : goal.returns-in_err-refuse_transfer
 returns-in_err-refuse_transfer g c =
     refused_err c.args.market.now _ c.market.view_is (Deposit c.args.name.now c.args.bits)
     c.in_err-refuse_transfer.field-0.0 c.from_residual.result c.from_residual.ensures.1
-    (c.in_err-refuse_transfer.ensures.deposit (market_of c.market.inside.file))
+    (c.in_err-refuse_transfer.ensures.deposit (market_of c.market.inside.file)
+    c.market.invariant.max_transfers)
 
 pub returns : goal.returns
 returns g c = rw (← c.market.view_is)
-    (c.in_ok-refuse_transfer.ensures.deposit (market_of c.market.inside.file))
+    (c.in_ok-refuse_transfer.ensures.deposit (market_of c.market.inside.file)
+    c.market.invariant.max_transfers)

@@ -5,4 +5,5 @@ use Rattle.mk_evidence.proofs.refused.refused_join.Goals as goal
 
 pub returns : goal.returns
 returns g c = refused_is c.args.market.now _ c.market.view_is (User c.args.name.now)
-    c.refuse_user.result (c.refuse_user.ensures.refusal (market_of c.market.inside.file))
+    c.refuse_user.result (c.refuse_user.ensures.refusal (market_of c.market.inside.file)
+    c.market.invariant.max_users)

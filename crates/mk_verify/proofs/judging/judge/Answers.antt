@@ -46,6 +46,11 @@ unfolding command_of
 returns-in-Status-clause-judged g c stands =
     rw c.in-Status.is (c.judge_status.ensures c.args.known.now.quotes stands)
 
+pub returns-in-Paid-clause-judged : goal.returns-in-Paid-clause-judged
+unfolding command_of
+returns-in-Paid-clause-judged g c stands =
+    rw c.in-Paid.is (c.judge_paid.ensures c.args.known.now.quotes stands)
+
 pub returns-in-Add-clause-judged : goal.returns-in-Add-clause-judged
 unfolding command_of
 returns-in-Add-clause-judged g c stands =

@@ -17,7 +17,7 @@ returns-in-Settled-clause-judged g c =
     (c.in-Settled.is
     ∙ ap (λ (n : ℕ). Settled n payments) (c.is_next.ensures.0 c.if-is_next.true))
     (settled_told market H (sym c.in-Ok.ensures.refusal) payments c.judge_payments.result
-    c.in-Ok.ensures.outcome (agrees.0 c.if-are_to_users.true)
+    c.in-Ok.ensures.outcome (agrees.0 c.if-are_to_users.true) c.rows.ensures.few
     (rw c.rows-in-Settled.ensures.same at c.judge_payments.ensures.judged))
 
 pub returns-in_default-clause-judged : goal.returns-in_default-clause-judged
@@ -31,4 +31,4 @@ returns-in_default-clause-judged g c =
     let same : payments ≡ c.in-Settled.payments = cc in
     let yes : c.are_to_users.result ≡ true = agrees.1
     (ap (λ (ps : List Payment). map (λ (p : Payment). p.user) ps) (sym same) ∙ names) in
-    absurd (cc))
+    absurd (cc)) (λ summed. c.in_default.not-SettledAll _ _ _ summed)
