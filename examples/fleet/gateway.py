@@ -21,7 +21,7 @@ from parts import fail
 NAME = re.compile(r"[a-z][a-z0-9_]{0,31}")
 MARKET = re.compile(r"[!-~]{1,64}")
 OPERATOR = "operator"
-OF_A_USER = {"user", "deposit", "withdraw", "limits", "edit", "bounds", "spread", "position", "worst"}
+OF_A_USER = {"user", "deposit", "withdraw", "limits", "edit", "bounds", "spread", "position", "worst", "paid"}
 OF_ALL = {"price", "prices", "status", "bound"}
 OF_THE_OPERATOR = {"resolve", "settle", "add"}
 # What uses up the limits of the whole market: trades, and transfers.

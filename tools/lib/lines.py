@@ -22,6 +22,7 @@ COMMANDS = {kind: re.compile(form) for kind, form in {
     "prices": rf"prices {ALL_OF}",
     "position": rf"position (?P<user>{N}) {ALL_OF}",
     "worst": rf"worst (?P<user>{N})",
+    "paid": rf"paid (?P<user>{N})",
     "status": r"status",
     "resolve": rf"resolve (?P<name>{N})=(?P<value>{N})",
     "settle": r"settle",
@@ -45,10 +46,11 @@ REPLIES = {kind: re.compile(form) for kind, form in {
     "prices": rf"prices (?P<ends>{PRICES}(?: {PRICES}){{1,15}})",
     "position": rf"position (?P<ends>{SURE}(?: {SURE}){{1,15}})",
     "worst": rf"worst (?P<ends>{INTERVAL})",
+    "paid": rf"paid (?P<payments>{N} {INTERVAL} paid [0-9]+)",
     "status": (r"status at (?P<at>[0-9]+) users (?P<users>[0-9]+) trades (?P<trades>[0-9]+ of [0-9]+) transfers (?P<transfers>[0-9]+ of [0-9]+)"
                r" open (?P<open>[0-9]+ of [0-9]+)"),
     "resolve": r"resolve \S+ at (?P<at>[0-9]+)",
-    "settle": rf"settle at (?P<at>[0-9]+)(?P<payments>(?:, {N} {INTERVAL} paid [0-9]+)*)",
+    "settle": rf"settle at (?P<at>[0-9]+)(?:(?P<payments>(?:, {N} {INTERVAL} paid [0-9]+)*)| users (?P<users>[0-9]+) paid (?P<total>[0-9]+))",
     "bound": rf"bound (?P<ends>{INTERVAL})",
     "add": rf"add (?P<name>{N}) at (?P<at>[0-9]+)",
 }.items()}
@@ -56,6 +58,11 @@ REPLIES = {kind: re.compile(form) for kind, form in {
 LAST_LINE = re.compile(rf"chance {PRICES}|best {PRICES} at most [0-9]+\.[0-9]{{10}}(?: {PAIR})+|expect -?[0-9]+\.\.-?[0-9]+"
                        rf"|refused (?:name {PAIR}|user {N}|given)")
 PAYMENT = re.compile(rf"({N}) ([0-9]+)\.\.([0-9]+) paid ([0-9]+)")
+
+
+def payments_of(reply):
+    """What a settlement or `paid` lists: user, both ends and what is paid. A settlement of many users lists nothing."""
+    return [(user, int(low), int(high), int(paid)) for user, low, high, paid in PAYMENT.findall(reply["payments"] or "")]
 
 
 class NoTranscript(Exception):
@@ -138,6 +145,8 @@ def read_entry(line, text):
     if repeated and text.rsplit(" at ", 1)[0] != line.removesuffix("\r"):
         return None
     if command.kind == "add" and found["name"] != command.name:
+        return None
+    if command.kind == "paid" and not text.startswith(f"paid {command.user} "):
         return None
     if command.kind == "spread" and len(found["ratios"].split(" ")) != len(command.numbers):
         return None

@@ -7,7 +7,9 @@ import tomllib
 from math import prod
 
 NAME = re.compile(r"[a-z][a-z0-9_]{0,31}")
-TOP_KEYS = ("points_per_bit", "max_trades", "variable", "cliques", "links", "zeros")
+TOP_KEYS = ("points_per_bit", "max_trades", "max_users", "max_transfers", "variable", "cliques", "links", "zeros")
+# the keys that may be absent, and what they are then
+USUAL = {"max_users": 256, "max_transfers": 65_536, "zeros": False}
 QUESTION_KEYS = ("name", "values", "parents", "rows")
 MILLION = 1_000_000
 MOST_BYTES, MOST_CELLS, MOST_CELLS_TOGETHER = 1_048_576, 4_096, 32_768
@@ -81,7 +83,8 @@ class Market:
         self.path, self.document, self.places = path, document, Places(text)
         self.title = os.path.basename(str(path)).removesuffix(".toml")
         self.points, self.max_trades = document["points_per_bit"], document["max_trades"]
-        self.cliques, self.links, self.has_zeros = document["cliques"], document["links"], document.get("zeros", False)
+        self.max_users, self.max_transfers, self.has_zeros = (document.get(key, usual) for key, usual in USUAL.items())
+        self.cliques, self.links = document["cliques"], document["links"]
         self.questions = {table["name"]: Question(table) for table in document["variable"]}
 
     def grown(self, name, addition):
@@ -108,15 +111,16 @@ def fail(text, line=None):
 
 
 def check_kinds(document, places):
-    """Every key that has to be there is, and is of its kind."""
+    """Every key that has to be there is, and each is of its kind."""
     kinds = {"points_per_bit": (is_whole, "a whole number"), "max_trades": (is_whole, "a whole number"),
+             "max_users": (is_whole, "a whole number"), "max_transfers": (is_whole, "a whole number"),
              "variable": (lambda value: is_list_of(value, lambda it: isinstance(it, dict)), "tables [[variable]]"),
              "cliques": (lambda value: is_list_of(value, lambda it: is_list_of(it, is_text)), "a list of lists of names"),
              "links": (lambda value: is_list_of(value, is_whole), "a list of whole numbers"),
              "zeros": (lambda value: isinstance(value, bool), "true or false")}
     for key, (is_kind, kind) in kinds.items():
         if key not in document:
-            if key == "zeros":
+            if key in USUAL:
                 continue
             tables = document["variable"] if isinstance(document.get("variable"), list) else []
             for at, table in enumerate(tables):
@@ -145,6 +149,8 @@ def check_counts(document, places):
             fail(f"{what}: {count:,}, where a market takes {low:,} to {high:,}", line)
     within(document["points_per_bit"], 1, MILLION, "points_per_bit", places.key("points_per_bit"))
     within(document["max_trades"], 1, 65_536, "max_trades", places.key("max_trades"))
+    for key, most in (("max_users", 65_536), ("max_transfers", MILLION)):
+        within(document.get(key, USUAL[key]), 1, most, key, places.key(key))
     within(len(document["variable"]), 1, 256, "questions", None)
     within(len(document["cliques"]), 1, 256, "cliques", places.key("cliques"))
     if len(document["links"]) != len(document["cliques"]) - 1:

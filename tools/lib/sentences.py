@@ -16,9 +16,10 @@ FORMS = {
     "prices": ("prices V | W=w, ..", "the prices of all answers of V"),
     "position": ("position U V | W=w, ..", "for each answer of V what U is paid at least where it comes, in points"),
     "worst": ("worst U", "what U is paid at least, whatever comes, in points"),
+    "paid": ("paid U", "what the settlement paid U, in points"),
     "status": ("status", "the revision, and how many users, trades, deposits and withdrawals, and open questions there are"),
     "resolve": ("resolve V=v", "V has the answer v, for ever"),
-    "settle": ("settle", "pays every user, once each question is resolved; nothing is taken behind it"),
+    "settle": ("settle", "pays every user, once each question is resolved; behind it `paid` alone is answered"),
     "bound": ("bound", "the most that the operator can lose, in points"),
     "add": ("add V=v,w | P,.. : X X, .. in C,.. to K", "V is a question from now on; P are its parents, C the names of its group, which is linked to group K"),
 }
@@ -486,7 +487,8 @@ def twice(name, line):
 
 REFUSALS = {
     "long": lambda rest, line, market: "a line has at most 1,024 bytes",
-    "settled": lambda rest, line, market: "the market is settled, and takes nothing more",
+    "settled": lambda rest, line, market: "the market is settled, and takes nothing more; `paid U` tells what U was paid",
+    "unsettled": lambda rest, line, market: "the market is not settled yet, so nobody was paid",
     "user": lambda rest, line, market: f"nobody called {rest} has joined; `user {rest}` lets {rest} join",
     "exists": lambda rest, line, market: f"{rest} has joined already",
     "users": lambda rest, line, market: f"{rest} users have joined, and the market takes no more",
@@ -539,6 +541,8 @@ def explain(line, reply, market):
     if reply.startswith("bound "):
         low, _, high = reply.removeprefix("bound ").partition("..")
         return f"whatever comes and whoever trades, the operator loses at most {high} points over the whole market, by what is resolved so far"
+    if found := re.fullmatch(r"settle at [0-9]+ users ([0-9]+) paid ([0-9]+)", reply):
+        return f"{int(found[1]):,} users are paid {int(found[2]):,} points together; `paid U` tells what U is paid"
     if not reply.startswith("refused "):
         return None
     cause, _, rest = reply.removeprefix("refused ").partition(" ")

@@ -9,7 +9,7 @@ import math
 import sys
 import time
 
-from .lines import read_transcript
+from .lines import payments_of, read_transcript
 from .process import Process, is_blank
 from .tree import Flow, floor_log2, least_weight
 
@@ -164,6 +164,12 @@ def price_series(market, entries, probe, found):
     return series
 
 
+def points_paid(entries, settlement, user):
+    """What a settlement paid a user, as it lists it or as `paid` told it behind it; None where neither does."""
+    told = [settlement, *(entry for entry in entries if entry.command is not None and entry.command.kind == "paid" and not entry.is_refused())]
+    return next((paid for entry in told for name, _, _, paid in payments_of(entry.reply) if name == user), None)
+
+
 def user_series(market, entries, probe, found):
     series = {}
     for user in probe.users:
@@ -174,8 +180,8 @@ def user_series(market, entries, probe, found):
                 bits += entry.command.numbers[0] * (1 if kind == "deposit" else -1) if kind != "user" else 0
                 paid_in.append([revision, bits * market.points])
             elif kind == "settle":
-                payments = [part.split(" ") for part in entry.reply["payments"].split(", ")[1:]]
-                paid = next(([revision, int(words[-1])] for words in payments if words[0] == user), None)
+                points = points_paid(entries, entry, user)
+                paid = None if points is None else [revision, points]
         trades = [revision for revision, entry in numbered(entries) if entry.command.kind in ("edit", "spread") and entry.command.user == user]
         series[user] = {"sure": found.get(("worst", user, None), []), "paid_in": paid_in, "trades": trades, "paid": paid}
     return series

@@ -40,7 +40,7 @@ SECTIONS = [
         "mk_exact/specs/Market.antt", "mk_states/specs/States.antt", "mk_states/specs/InitialWeight.antt", "mk_states/specs/Events.antt",
         "mk_exact/specs/History.antt", "mk_states/specs/Ratios.antt", "mk_states/specs/OfNetwork.antt", "mk_exact/specs/Weight.antt", "mk_exact/specs/Factors.antt",
         "mk_exact/specs/Prices.antt", "mk_exact/specs/Limits.antt", "mk_exact/specs/Sides.antt", "mk_exact/specs/Accepted.antt",
-        "mk_exact/specs/Cash.antt", "mk_exact/specs/Proper.antt", "mk_exact/specs/Sound.antt", "mk_spread/specs/Bounds.antt",
+        "mk_exact/specs/Cash.antt", "mk_scaled/specs/Form.antt", "mk_scaled/specs/ByRule.antt", "mk_exact/specs/ByRule.antt", "mk_exact/specs/Proper.antt", "mk_exact/specs/Sound.antt", "mk_spread/specs/Bounds.antt",
         "mk_spread/specs/Markets.antt", "mk_spread/specs/Told.antt"]),
     ("The operator's bound", ["mk_exact/specs/Risk.antt", "mk_exact/specs/Laws.antt", "mk_rules/specs/Laws.antt"]),
     ("Texts", [

@@ -216,9 +216,13 @@ class AsyncMarket:
         its parents, and is linked to the clique with the number `link`."""
         return await self.ask(commands.add(name, values, parents, rows, clique, link))
 
-    async def settle(self) -> replies.Settlement:
-        """Pays every user, once all variables are resolved."""
+    async def settle(self) -> replies.Settlement | replies.SettledAll:
+        """Pays every user, once all variables are resolved. Of more than 256 users it tells the sum, and `paid` each one's part."""
         return await self.ask(commands.settle())
+
+    async def paid(self, user: str) -> replies.Paid:
+        """What the settlement paid the user; it is the one command that is served behind a settlement."""
+        return await self.ask(commands.paid(user))
 
     async def bound(self) -> replies.Bound:
         """The most points that the operator can lose in the outcomes that are left."""

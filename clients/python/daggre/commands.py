@@ -20,10 +20,10 @@ R = TypeVar("R", bound=replies.Reply, covariant=True)
 
 @dataclass(frozen=True, slots=True)
 class Command(Generic[R]):
-    """One line for the program, and the class of its reply where it is not refused."""
+    """One line for the program, and the class of its reply where it is not refused; several where it may be one of them."""
 
     line: str
-    kind: type[R]
+    kind: type[R] | tuple[type[R], ...]
 
     def read(self, text: str) -> R | Refusal:
         """What this reply says; UnknownLine where it is none that this command may get."""
@@ -101,8 +101,12 @@ def add(name: str, values: Sequence[str], parents: Sequence[str], rows: Sequence
     return Command(f"add {name}={','.join(values)}{bar} : {shares} in {','.join(clique)} to {link}", replies.Added)
 
 
-def settle() -> Command[replies.Settlement]:
-    return Command("settle", replies.Settlement)
+def settle() -> Command[replies.Settlement | replies.SettledAll]:
+    return Command("settle", (replies.Settlement, replies.SettledAll))
+
+
+def paid(user: str) -> Command[replies.Paid]:
+    return Command(f"paid {user}", replies.Paid)
 
 
 def bound() -> Command[replies.Bound]:

@@ -36,10 +36,18 @@ class Long(Refusal):
 
 @dataclass(frozen=True, slots=True)
 class Settled(Refusal):
-    """The market is settled."""
+    """The market is settled. Only `paid` is not refused for it."""
 
     def __str__(self) -> str:
         return "refused settled"
+
+
+@dataclass(frozen=True, slots=True)
+class Unsettled(Refusal):
+    """The market is not settled yet, so nothing was paid."""
+
+    def __str__(self) -> str:
+        return "refused unsettled"
 
 
 @dataclass(frozen=True, slots=True)
@@ -335,6 +343,7 @@ _TEXTS: list[tuple[str, Callable[..., Refusal]]] = [
     ("syntax", Syntax),
     ("long", Long),
     ("settled", Settled),
+    ("unsettled", Unsettled),
     (f"user ({NAME})", UnknownUser),
     (f"exists ({NAME})", Exists),
     (f"users {COUNT}", lambda n: TooManyUsers(read_count(n, 65536))),

@@ -214,8 +214,35 @@ class Settlement(Reply):
     at: int
     payments: tuple[Payment, ...]
 
+    @property
+    def total(self) -> int:
+        """What all users are paid together."""
+        return sum(payment.paid for payment in self.payments)
+
     def __str__(self) -> str:
         return ", ".join([f"settle at {self.at}", *map(str, self.payments)])
+
+
+@dataclass(frozen=True, slots=True)
+class SettledAll(Reply):
+    """`settle` where more than 256 users joined: how many are paid, and how much together. `paid` tells what each is paid."""
+
+    at: int
+    users: int
+    total: int
+
+    def __str__(self) -> str:
+        return f"settle at {self.at} users {self.users} paid {self.total}"
+
+
+@dataclass(frozen=True, slots=True)
+class Paid(Reply):
+    """`paid`: what the settlement paid this user."""
+
+    payment: Payment
+
+    def __str__(self) -> str:
+        return f"paid {self.payment}"
 
 
 @dataclass(frozen=True, slots=True)
@@ -231,18 +258,28 @@ class Bound(Reply):
 
 _PAYMENT = re.compile(rf"({NAME}) {COUNT}\.\.{COUNT} paid {COUNT}")
 MOST_PAYMENTS = 256
+MOST_USERS = 65536
+
+
+def _payment(text: str) -> Payment:
+    found = _PAYMENT.fullmatch(text)
+    if found is None or found[4] != found[2]:
+        raise ValueError(f"no payment: {text!r}")
+    return Payment(found[1], read_count(found[2]), read_count(found[3]))
 
 
 def _settlement(at: str, rest: str) -> Settlement:
-    payments = []
-    for part in rest.split(", ")[1:]:
-        found = _PAYMENT.fullmatch(part)
-        if found is None or found[4] != found[2]:
-            raise ValueError(f"no payment: {part!r}")
-        payments.append(Payment(found[1], read_count(found[2]), read_count(found[3])))
+    payments = tuple(map(_payment, rest.split(", ")[1:]))
     if len(payments) > MOST_PAYMENTS:
         raise ValueError(f"{len(payments)} payments")
-    return Settlement(read_count(at), tuple(payments))
+    return Settlement(read_count(at), payments)
+
+
+def _settled_all(at: str, users: str, total: str) -> SettledAll:
+    settled = SettledAll(read_count(at), read_count(users, MOST_USERS), read_count(total))
+    if settled.users <= MOST_PAYMENTS:
+        raise ValueError(f"{users} users, whose payments are listed")
+    return settled
 
 
 def _prices(text: str, *_: str) -> Prices:
@@ -271,11 +308,13 @@ _TEXTS: list[tuple[str, Callable[..., Reply]]] = [
     (f"resolve ({NAME}={NAME}) at {COUNT}", lambda text, at: Resolved(Pair.read(text), read_count(at))),
     (f"add ({NAME}) at {COUNT}", lambda variable, at: Added(variable, read_count(at))),
     (f"settle at {COUNT}((?:, [^,]*)*)", _settlement),
+    (f"settle at {COUNT} users {COUNT} paid {COUNT}", _settled_all),
+    ("paid ([^,]*)", lambda text: Paid(_payment(text))),
     (rf"bound {COUNT}\.\.{COUNT}", lambda a, b: Bound(read_count(a), read_count(b))),
 ]
 _BY_WORD: dict[str, list[tuple[re.Pattern[str], Callable[..., Reply | Refusal]]]] = {"refused": list(refusals.TEXTS)}
 for _text, _make in _TEXTS:
-    _BY_WORD[_text.split(" ", 1)[0]] = [(re.compile(_text), _make)]
+    _BY_WORD.setdefault(_text.split(" ", 1)[0], []).append((re.compile(_text), _make))
 
 
 def read_reply(line: str) -> Reply | Refusal:

@@ -32,7 +32,9 @@ def test_every_command_has_a_method(example):
             assert (await market.withdraw("alice", 1)).at == 5
             for pair in ("storm=yes", "ferry=stays", "concert=moved"):
                 await market.resolve(pair)
-            assert (await market.settle()).at == 9
+            settled = await market.settle()
+            assert settled.at == 9
+            assert (await market.paid("alice")).payment == settled.payments[0]
             with pytest.raises(daggre.Refused) as raised:
                 await market.price("storm=yes")
             assert raised.value.cause == refusals.Settled()

@@ -44,7 +44,27 @@ def test_every_command_has_a_method(ferry):
     assert [ferry.resolve(pair).at for pair in ("storm=yes", "ferry=stays", "concert=moved")] == [6, 7, 8]
     settled = ferry.settle()
     assert settled.at == 9 and settled.payments[0].user == "alice" and settled.payments[0].paid == settled.payments[0].low
+    assert ferry.paid("alice") == replies.Paid(settled.payments[0])
     assert ferry.close() == 0 and ferry.close() == 0
+
+
+def test_what_was_paid_is_told_behind_a_settlement_alone(coin):
+    assert coin.many([commands.user("alice"), commands.user("bob"), commands.deposit("alice", 1), commands.edit("alice", "coin=heads", 600000), commands.deposit("bob", 2),
+                      commands.resolve("coin=heads")])[-1].at == 6
+    assert coin.many([commands.paid("alice"), commands.paid("carol")]) == [refusals.Unsettled()] * 2
+    alice, bob = replies.Payment("alice", 126, 126), replies.Payment("bob", 200, 200)
+    assert coin.settle() == replies.Settlement(7, (alice, bob))
+    assert coin.many([commands.paid("alice"), commands.paid("bob"), commands.paid("carol"), commands.worst("alice"), commands.settle()]) == [
+        replies.Paid(alice), replies.Paid(bob), refusals.UnknownUser("carol"), refusals.Settled(), refusals.Settled()]
+
+
+def test_many_users_are_settled_by_their_sum(example, built):
+    text = example("coin").read_text().replace("max_trades = 1000\n", "max_trades = 1000\nmax_users = 300\n")
+    with Market.of_text(text) as market:
+        names = [f"u{number}" for number in range(1, 301)]
+        market.many([*map(commands.user, names), *(commands.deposit(name, 1) for name in names), commands.resolve("coin=heads")])
+        assert market.many([commands.user("u301"), commands.settle()]) == [refusals.TooManyUsers(300), replies.SettledAll(602, 300, 30000)]
+        assert market.paid("u300") == replies.Paid(replies.Payment("u300", 100, 100))
 
 
 def test_the_bound_where_the_program_knows_it(coin):

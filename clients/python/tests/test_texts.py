@@ -36,13 +36,20 @@ REPLIES = {
     f"add add at {GREATEST}": replies.Added("add", GREATEST),
     "settle at 9": replies.Settlement(9, ()),
     "settle at 9, alice 67..67 paid 67, bob 0..1 paid 0": replies.Settlement(9, (replies.Payment("alice", 67, 67), replies.Payment("bob", 0, 1))),
+    "settle at 902 users 300 paid 29860": replies.SettledAll(902, 300, 29860),
+    f"settle at {GREATEST} users 65536 paid {GREATEST}": replies.SettledAll(GREATEST, 65536, GREATEST),
+    "settle at 259 users 257 paid 0": replies.SettledAll(259, 257, 0),
+    "paid alice 126..127 paid 126": replies.Paid(replies.Payment("alice", 126, 127)),
+    f"paid paid 0..{GREATEST} paid 0": replies.Paid(replies.Payment("paid", 0, GREATEST)),
     "bound 300..301": replies.Bound(300, 301),
     "refused syntax": refusals.Syntax(),
     "refused long": refusals.Long(),
     "refused settled": refusals.Settled(),
+    "refused unsettled": refusals.Unsettled(),
     "refused user alice": refusals.UnknownUser("alice"),
     "refused exists alice": refusals.Exists("alice"),
     "refused users 256": refusals.TooManyUsers(256),
+    "refused users 65536": refusals.TooManyUsers(65536),
     "refused variables 256": refusals.VariablesFull(256),
     "refused taken umbrella": refusals.Taken("umbrella"),
     "refused value a": refusals.ValueTwice("a"),
@@ -64,6 +71,7 @@ REPLIES = {
     "refused sum 1100000": refusals.Sum(1100000),
     "refused cells 32772": refusals.TooManyCells(32772),
     "refused full 1": refusals.Full(1),
+    "refused full 1000000": refusals.Full(1000000),
     "refused sure storm=yes": refusals.Sure(Pair("storm", "yes")),
     "refused beyond 250000..250000": refusals.Beyond(Interval(250000, 250000)),
     "refused beyond none": refusals.Beyond(None),
@@ -86,6 +94,10 @@ NO_REPLIES = [
     "add", "add umbrella", "add Umbrella at 1", "add umbrella=yes,no at 1", "add umbrella at 01", f"add umbrella at {GREATEST + 1}", "refused variables 257",
     "refused variables", "refused taken", "refused value 1", "refused link", "refused link -1", f"refused link {2**32}", "refused cover rain=yes", "refused rows a",
     "refused width 2", "refused width 2 3 4", f"refused width {2**32} 1", "refused cells", f"refused cells {2**32}",
+    "settle at 9 users 256 paid 5", "settle at 9 users 65537 paid 5", "settle at 9 users 300", "settle at 9 users 300 paid", "settle at 9 users 0300 paid 5",
+    f"settle at 9 users 300 paid {GREATEST + 1}", "settle at 9 users 300 paid 5, alice 5..5 paid 5", "settle users 300 paid 5", "settle at 9 users 300 paid 5..5",
+    "paid", "paid ", "paid alice", "paid alice 5", "paid alice 5..5", "paid alice 5..5 paid 4", "paid Alice 5..5 paid 5", "paid alice 5..5 paid 5 at 9", "paid alice 5..5  paid 5",
+    "paid alice 5..5 paid 5, bob 5..5 paid 5", f"paid alice 5..{GREATEST + 1} paid 5", "paid none", "refused unsettled 1", "refused Unsettled",
     "bound 5", "bound 5..6 at 1", "bound none", "refused", "refused sure w", "refused users 65537", "refused beyond", "refused Syntax", "refused syntax ",
     "refused market toml", "price 0.5000000000..0.5000000000\n", "price ٠.5000000000..0.5000000000", "settle at 9" + "".join(f", u{k} 0..0 paid 0" for k in range(257)),
 ]
@@ -116,6 +128,27 @@ def test_every_line_that_the_examples_expect_is_read():
             assert str(read_reply(line)) == line
             count += 1
     assert count > 100
+
+
+def test_a_settlement_tells_its_sum_with_a_list_and_without_one():
+    assert read_reply("settle at 9, alice 67..67 paid 67, bob 3..4 paid 3").total == 70
+    assert read_reply("settle at 902 users 300 paid 29860").total == 29860
+    assert read_reply("paid bob 3..4 paid 3").payment.paid == 3
+
+
+@pytest.mark.parametrize("text", ["settle at 9", "settle at 9, alice 67..67 paid 67", "settle at 902 users 300 paid 29860"])
+def test_a_settlement_has_either_reply(text):
+    assert commands.settle().read(text) == read_reply(text)
+    with pytest.raises(UnknownLine):
+        commands.paid("alice").read(text)
+
+
+def test_what_a_user_is_paid_is_asked_by_name():
+    assert commands.paid("alice").line == "paid alice"
+    assert commands.paid("alice").read("paid alice 5..6 paid 5") == replies.Paid(replies.Payment("alice", 5, 6))
+    assert commands.paid("alice").read("refused unsettled") == refusals.Unsettled()
+    with pytest.raises(UnknownLine):
+        commands.settle().read("paid alice 5..6 paid 5")
 
 
 def test_prices_are_exact_decimals():

@@ -111,14 +111,14 @@ def test_replies_that_are_gone_are_no_fault_of_the_market(served):
 
 
 @pytest.mark.parametrize("account, line", [("alice", "user alice"), ("alice", "edit alice coin=heads to 600000"), ("alice", "price coin=heads"), ("alice", "bound"),
-                                           ("operator", "resolve coin=heads"), ("operator", "settle"), ("operator", "add bet=yes,no : 500000 500000 in bet to 1"), ("alice", "worst alice"), ("alice", "prices coin"), ("alice", "position alice coin"), ("alice", "status")])
+                                           ("operator", "resolve coin=heads"), ("operator", "settle"), ("operator", "add bet=yes,no : 500000 500000 in bet to 1"), ("alice", "worst alice"), ("alice", "paid alice"), ("alice", "prices coin"), ("alice", "position alice coin"), ("alice", "status")])
 def test_what_a_gateway_lets_through(account, line):
     assert objection(account, line) is None
 
 
 @pytest.mark.parametrize("account, line", [
     ("alice", ""), ("alice", "   "), ("alice", "price coin=heads\0"), ("alice", "price coin=heads\r"), ("alice", "price c\u00e9=heads"), ("alice", "price " + "x" * 1024),
-    ("alice", "edit bob coin=heads to 600000"), ("alice", "worst bob"), ("alice", "position bob coin"), ("alice", "withdraw bob 1"), ("alice", "resolve coin=heads"), ("alice", "settle"), ("alice", "add alice=yes,no : 500000 500000 in alice to 1"),
+    ("alice", "edit bob coin=heads to 600000"), ("alice", "worst bob"), ("alice", "paid bob"), ("alice", "position bob coin"), ("alice", "withdraw bob 1"), ("alice", "resolve coin=heads"), ("alice", "settle"), ("alice", "add alice=yes,no : 500000 500000 in alice to 1"),
     ("alice", "edit"), ("alice", "user"), ("alice", "shutdown"), ("operator", "deposit alice 1"), ("alice", " user alice"),
 ])
 def test_what_a_gateway_holds_back(account, line):
@@ -136,6 +136,7 @@ def test_changes_are_counted_and_questions_are_not():
     gateway = Gateway("", 10, 10, 60)
     assert gateway.read("coin alice 1 deposit alice 2")[0] == ("coin", "alice", 1, "deposit alice 2", 1)
     assert gateway.read("coin alice 2 worst alice")[0][4] == 0
+    assert gateway.read("coin alice 3 paid alice")[0][4] == 0
 
 
 class FakeGatewayLog:
