@@ -330,7 +330,8 @@ can_go_on market now is_market here quotes stands safe = record {
   ready = subst (λ (s : Standing). IsReady (present market now.standing.history) s) (sym quotes)
       (unquoted_is_ready (present market now.standing.history) now.standing.history stands);
   bounded = bounded_in now.market market now.standing.history
-      (ap (λ (m : Market). m.max_trades) here) safe.bounded;
+      (ap (λ (m : Market). m.max_trades) here) (ap (λ (m : Market). m.max_users) here)
+      (ap (λ (m : Market). m.max_transfers) here) safe.bounded;
 }
 
 module _ (market : Market) (standing : Standing) (count : ℕ)
