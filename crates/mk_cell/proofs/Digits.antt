@@ -23,7 +23,7 @@ moved_up n p h =
     (e, omega arith, omega arith)
 
 -- a number of n parts that are moved up
-pub moved_value : (n r e shift : ℕ) → e + shift + r ≡ 268435456 → (n * 2 ^ r) * 2 ^ (e + shift) ≡ n * 2 ^ bias
+pub moved_value : (n r e shift : ℕ) → e + shift + r ≡ 1342177280 → (n * 2 ^ r) * 2 ^ (e + shift) ≡ n * 2 ^ bias
 moved_value n r e shift h =
     let i : r + (e + shift) ≡ bias = let b = bias-is in omega arith in
     mul_assoc n (2 ^ r) (2 ^ (e + shift)) ∙ ap (λ x. n * x) (sym (pow-add 2 r (e + shift)) ∙ ap (λ x. 2 ^ x) i)
@@ -65,7 +65,7 @@ pub right_there : (m n : ℕ) → 0 < m * n → 0 < n
 right_there m n h = left_there n m (rw (mul_comm n m) h)
 
 -- the exponents of a product that is there leave room for the bias
-pub product_room : (m e n d : ℕ) → IsCell m e → IsCell n d → 0 < m * n → (6 * 2 ^ 26 ≤ e + d) × (e + d ≤ 10 * 2 ^ 26)
+pub product_room : (m e n d : ℕ) → IsCell m e → IsCell n d → 0 < m * n → (14 * 2 ^ 27 ≤ e + d) × (e + d ≤ 26 * 2 ^ 27)
 product_room m e n d a b p =
     let i = a.low (left_there m n p) in
     let j = b.low (right_there m n p) in
@@ -73,7 +73,7 @@ product_room m e n d a b p =
     let l = b.high in
     (omega arith, omega arith)
 
-pub no_product : (m e n d : ℕ) → IsCell m e → IsCell n d → m * n ≡ 0 → e + d ≤ 5 * 2 ^ 26
+pub no_product : (m e n d : ℕ) → IsCell m e → IsCell n d → m * n ≡ 0 → e + d ≤ 13 * 2 ^ 27
 no_product m e n d a b z =
     ⊎_elim
     (λ (p : 0 < m).
@@ -93,7 +93,7 @@ nothing_there p a h = let l : p * 1 ≤ p * 2 ^ a = mul-le-mul_left p (pow_pos a
 pub no_digits_left : (p r q : ℕ) → q ≡ p / 2 ^ r → p ≡ 0 → q ≡ 0
 no_digits_left p r q h z = h ∙ ap (λ y. y / 2 ^ r) z ∙ zero-div (2 ^ r)
 
-pub rounded_product : (m e n d q u x : ℕ) → q ≡ m * n / 2 ^ (64 - u) → u ≤ 1 → (0 < m * n → 2 ^ 63 ≤ q) → q < 2 ^ 64 → (0 < m * n → x + 268435456 + u ≡ e + d + 64) → (m * n ≡ 0 → x ≡ 0) → IsRounded q x ((m * n) * 2 ^ (e + d))
+pub rounded_product : (m e n d q u x : ℕ) → q ≡ m * n / 2 ^ (64 - u) → u ≤ 1 → (0 < m * n → 2 ^ 63 ≤ q) → q < 2 ^ 64 → (0 < m * n → x + 1342177280 + u ≡ e + d + 64) → (m * n ≡ 0 → x ≡ 0) → IsRounded q x ((m * n) * 2 ^ (e + d))
 rounded_product m e n d q u x h k f l s t =
     record {
       form = record {
@@ -142,7 +142,7 @@ full_total n q x e p f l c =
       cut = λ z. c;
     }
 
-pub rounded_total : (n e : ℕ) → 2 ^ 62 ≤ n → n < 2 ^ 128 → 2 ^ 28 + 1 ≤ e → IsRounded (n * 2 ^ count_leading_zeros 128 n % 2 ^ 128 / 2 ^ 64) (e + 64 - count_leading_zeros 128 n - 268435456) (n * 2 ^ e)
+pub rounded_total : (n e : ℕ) → 2 ^ 62 ≤ n → n < 2 ^ 128 → 10 * 2 ^ 27 + 1 ≤ e → IsRounded (n * 2 ^ count_leading_zeros 128 n % 2 ^ 128 / 2 ^ 64) (e + 64 - count_leading_zeros 128 n - 1342177280) (n * 2 ^ e)
 rounded_total n e h l k =
     let p : 0 < n = omega arith in
     let r : ℕ = count_leading_zeros 128 n in
@@ -151,8 +151,8 @@ rounded_total n e h l k =
     let b : n * 2 ^ count_leading_zeros 128 n % 2 ^ 128 < 2 ^ 128 = omega arith in
     let f : 2 ^ 63 ≤ n * 2 ^ count_leading_zeros 128 n / 2 ^ 64 = let y = m.1 in omega arith in
     let g : n * 2 ^ count_leading_zeros 128 n / 2 ^ 64 < 2 ^ 64 = let y = m.0 in omega arith in
-    let i : (e + 64 - count_leading_zeros 128 n - 268435456) + bias ≡ (e - count_leading_zeros 128 n) + 64 = let y = bias-is in omega arith in
-    let c = cut_of (n * 2 ^ count_leading_zeros 128 n) 64 (e - count_leading_zeros 128 n) (n * 2 ^ count_leading_zeros 128 n / 2 ^ 64) ((e + 64 - count_leading_zeros 128 n - 268435456) + bias) (same _) i f g in
+    let i : (e + 64 - count_leading_zeros 128 n - 1342177280) + bias ≡ (e - count_leading_zeros 128 n) + 64 = let y = bias-is in omega arith in
+    let c = cut_of (n * 2 ^ count_leading_zeros 128 n) 64 (e - count_leading_zeros 128 n) (n * 2 ^ count_leading_zeros 128 n / 2 ^ 64) ((e + 64 - count_leading_zeros 128 n - 1342177280) + bias) (same _) i f g in
     rw m.0 (full_total n _ _ e p f g (rw (moved_back n (count_leading_zeros 128 n) e (omega arith)) at c))
   where
     same : (a : ℕ) → a ≡ a

@@ -6,6 +6,7 @@ use Rattle.std.proofs.Math.Nat.{mul-le-mul_left, mul-le-mul_right, mul-lt-mul_of
 use Rattle.mk_scaled.specs.Near.{IsNear, near_same, near_step, near_trans, near_between, near-mul}
 use Rattle.mk_scaled.specs.Range.{IsInRange, two_to, two_to-mono, two_to-suc, two_to-small, whole_below, pow_le, pow-lt_reflects}
 use Rattle.mk_scaled.specs.Rounding.{IsRepresentable, IsLeastAbove}
+use Rattle.mk_enclose.specs.Enclosure.{widest_grade}
 use Rattle.mk_cell.specs.Cell.{bias, bias-is, StandsAt}
 use Rattle.mk_cell.specs.inner.Close.{close_unscaled, close_width}
 
@@ -46,7 +47,7 @@ some_up : (w x : ℕ) → 1 ≤ w → w < 2 ^ 64 + 2 ^ 62 → (up : ℕ) × IsUp
 some_up w x p h =
     ⊎_elim (λ (l : w < 2 ^ 64). (w * 2 ^ x, up_of w x p l)) (λ (l : 2 ^ 64 ≤ w). ((w + 1) / 2 * 2 ^ suc x, up_carried w x l h)) (cases_lt w (2 ^ 64))
 
-pub up_within : (d p x high : ℕ) → 1 ≤ d → d < 2 ^ 64 → p ≤ 2 ^ 20 → IsLeastAbove high (d * 2 ^ x + p * 2 ^ x) → high ≤ (d + p + 1) * 2 ^ x
+pub up_within : (d p x high : ℕ) → 1 ≤ d → d < 2 ^ 64 → p ≤ 2 ^ 23 → IsLeastAbove high (d * 2 ^ x + p * 2 ^ x) → high ≤ (d + p + 1) * 2 ^ x
 up_within d p x high q h l a =
     let i : d * 2 ^ x + p * 2 ^ x ≡ (d + p) * 2 ^ x = omega arith in
     let u = some_up (d + p) x (omega arith) (omega arith) in
@@ -86,15 +87,15 @@ near_ends m g x low high f p i h =
 
 -- ---- what is reached
 
-places_enough : (m n c : ℕ) → 2 ^ 63 ≡ c + n → m < 2 ^ 64 → n ≤ 393216 → 2 ^ 62 ≤ c → m * 2 ^ 63 ≤ (m + 2 * n + 1) * c
+places_enough : (m n c : ℕ) → 2 ^ 63 ≡ c + n → m < 2 ^ 64 → n ≤ 3145728 → 2 ^ 62 ≤ c → m * 2 ^ 63 ≤ (m + 2 * n + 1) * c
 places_enough m n c e h l k =
     let a : m * n ≤ 2 ^ 64 * n = mul-le-mul_right n (omega arith) in
-    let b : n * n ≤ 393216 * n = mul-le-mul_right n l in
+    let b : n * n ≤ 3145728 * n = mul-le-mul_right n l in
     let d : 2 ^ 64 * n ≡ (2 * (c + n)) * n = ap (λ y. y * n) (let i : 2 ^ 64 ≡ 2 * (c + n) = omega arith in i) in
     let f : m * 2 ^ 63 ≡ m * (c + n) = ap (λ y. m * y) e in
     rw f (omega arith)
 
-reached_at : (v m n p c : ℕ) → 2 ^ 63 ≡ c + n → m < 2 ^ 64 → n ≤ 393216 → 2 ^ 62 ≤ c → v * c ≤ (m * p) * 2 ^ 63 → v ≤ (m + 2 * n + 1) * p
+reached_at : (v m n p c : ℕ) → 2 ^ 63 ≡ c + n → m < 2 ^ 64 → n ≤ 3145728 → 2 ^ 62 ≤ c → v * c ≤ (m * p) * 2 ^ 63 → v ≤ (m + 2 * n + 1) * p
 reached_at v m n p c e h l k s =
     let a : (m * 2 ^ 63) * p ≤ ((m + 2 * n + 1) * c) * p = mul-le-mul_right p (places_enough m n c e h l k) in
     let q : 1 ≤ c = omega arith in
@@ -104,7 +105,7 @@ reached_at v m n p c e h l k s =
 in_wholes : (m y x b : ℕ) → y ≡ x + b → m * 2 ^ y ≡ (m * 2 ^ x) * 2 ^ b
 in_wholes m y x b e = ap (λ k. m * 2 ^ k) e ∙ ap (λ k. m * k) (pow-add 2 x b) ∙ sym (mul_assoc m (2 ^ x) (2 ^ b))
 
-pub reached : (m e shift v g x : ℕ) → m < 2 ^ 64 → g ≤ 2 ^ 17 → e + shift ≡ x + 268435456 → StandsAt shift m e v (3 * g) → v ≤ (m + 6 * g + 1) * 2 ^ x
+pub reached : (m e shift v g x : ℕ) → m < 2 ^ 64 → g ≤ widest_grade → e + shift ≡ x + 1342177280 → StandsAt shift m e v (3 * g) → v ≤ (m + 6 * g + 1) * 2 ^ x
 reached m e shift v g x h l i s =
     let j : e + shift ≡ x + bias = let b = bias-is in omega arith in
     let low = s.lower in
@@ -116,7 +117,7 @@ reached m e shift v g x h l i s =
     rw t at r
 
 -- the lower end is not above the number
-pub not_above : (m e shift v n x : ℕ) → e + shift ≡ x + 268435456 → StandsAt shift m e v n → m * 2 ^ x ≤ v
+pub not_above : (m e shift v n x : ℕ) → e + shift ≡ x + 1342177280 → StandsAt shift m e v n → m * 2 ^ x ≤ v
 not_above m e shift v n x i s =
     let j : e + shift ≡ x + bias = let b = bias-is in omega arith in
     let low = s.lower in
@@ -125,7 +126,7 @@ not_above m e shift v n x i s =
 pub at_least_half : (m x : ℕ) → 2 ^ 63 ≤ m → 2 ^ 63 ≤ m * 2 ^ x
 at_least_half m x h = let k : m * 1 ≤ m * 2 ^ x = mul-le-mul_left m (pow_pos x) in omega arith
 
-pub bounded_end : (m x v g high : ℕ) → 2 ^ 63 ≤ m → g ≤ 2 ^ 17 → m * 2 ^ x ≤ v → v < two_to (64 * (3 * g + 1)) → high ≤ (m + 6 * g + 2) * 2 ^ x → high ≤ two_to (192 * (g + 1))
+pub bounded_end : (m x v g high : ℕ) → 2 ^ 63 ≤ m → g ≤ widest_grade → m * 2 ^ x ≤ v → v < two_to (64 * (3 * g + 1)) → high ≤ (m + 6 * g + 2) * 2 ^ x → high ≤ two_to (192 * (g + 1))
 bounded_end m x v g high f l h k u =
     let a : (m + 6 * g + 2) * 2 ^ x ≤ (m + m) * 2 ^ x = mul-le-mul_right (2 ^ x) (omega arith) in
     let s = two_to-suc (64 * (3 * g + 1)) in
@@ -135,7 +136,7 @@ bounded_end m x v g high f l h k u =
 -- ---- numbers below 2 ^ 63
 
 -- digits that lie below 2 ^ 63 whole ones are the number
-pub whole_digits : (m e shift v n r : ℕ) → m < 2 ^ 64 → e + shift + r ≡ 268435456 → 0 < r → StandsAt shift m e v n → m ≡ v * 2 ^ r
+pub whole_digits : (m e shift v n r : ℕ) → m < 2 ^ 64 → e + shift + r ≡ 1342177280 → 0 < r → StandsAt shift m e v n → m ≡ v * 2 ^ r
 whole_digits m e shift v n r h i p s =
     let j : bias ≡ r + (e + shift) = let b = bias-is in omega arith in
     let w : 2 ^ bias ≡ 2 ^ r * 2 ^ (e + shift) = ap (λ k. 2 ^ k) j ∙ pow-add 2 r (e + shift) in

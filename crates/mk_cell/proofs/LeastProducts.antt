@@ -21,7 +21,7 @@ use Rattle.mk_cell.proofs.SummedProducts.{full_product, there_at, pair_lower}
 -- ---- one candidate
 
 -- what is above the greatest number counts as that
-pub adds_near : (e low far m x d : ℕ) → e ≤ 2 ^ 30 → low ≤ 2 ^ 30 → d ≡ (e + (4294967296 - low)) % 4294967296 → (d ≤ 1 → m * 2 ^ d ≤ far → x ≡ m * 2 ^ d) → (d ≤ 1 → far < m * 2 ^ d → x ≡ far) → (1 < d → x ≡ far) → Adds (IsNextTo low e) far (min far (m * 2 ^ (e - low))) x
+pub adds_near : (e low far m x d : ℕ) → e ≤ 27 * 2 ^ 27 → low ≤ 27 * 2 ^ 27 → d ≡ (e + (4294967296 - low)) % 4294967296 → (d ≤ 1 → m * 2 ^ d ≤ far → x ≡ m * 2 ^ d) → (d ≤ 1 → far < m * 2 ^ d → x ≡ far) → (1 < d → x ≡ far) → Adds (IsNextTo low e) far (min far (m * 2 ^ (e - low))) x
 adds_near e low far m x d h k i fits over beyond = record {
   here = λ a.
       let l = a.low in
@@ -62,8 +62,8 @@ ArePlaces n a e b d m x = (c : ℕ) → c < n → IsUnrounded (a c) (e c) (b c) 
 pub record IsPresent (m x : ℕ) : Type 0 where
   pub full : 2 ^ 62 ≤ m
   pub fits : m < 2 ^ 64
-  pub low : 402653184 ≤ x
-  pub high : x ≤ 10 * 2 ^ 26
+  pub low : 1879048192 ≤ x
+  pub high : x ≤ 26 * 2 ^ 27
 
 pub present : (l e r d m x : ℕ) → IsUnrounded l e r d m x → 0 < l * r → IsPresent m x
 present l e r d m x u p =
@@ -79,7 +79,7 @@ present l e r d m x u p =
     product_fits : (m e n d : ℕ) → IsCell m e → IsCell n d → m * n < 2 ^ 128
     product_fits m e n d a b = let x : m * n < 2 ^ 64 * 2 ^ 64 = mul-lt m n (2 ^ 64) (2 ^ 64) a.form.fits b.form.fits in omega arith
 
-present_at : (l e r d m x : ℕ) → IsUnrounded l e r d m x → 402653184 ≤ x → IsPresent m x
+present_at : (l e r d m x : ℕ) → IsUnrounded l e r d m x → 1879048192 ≤ x → IsPresent m x
 present_at l e r d m x u h =
     let j = u.exponent_is in
     present l e r d m x u (there_at l e r d u.left_cell u.right_cell (omega arith))
@@ -92,14 +92,14 @@ places_there l e r d m x u p =
 
 -- ---- no product
 
-no_product_at : (l e r d m x : ℕ) → IsUnrounded l e r d m x → (402653184 ≤ x → 4294967295 ≤ x) → l * r ≤ 0
+no_product_at : (l e r d m x : ℕ) → IsUnrounded l e r d m x → (1879048192 ≤ x → 4294967295 ≤ x) → l * r ≤ 0
 no_product_at l e r d m x u h =
     ⊎_elim
     (λ (p : 0 < l * r). let w = present l e r d m x u p in let y = h w.low in let z = w.high in absurd (omega arith))
     (λ (p : l * r ≤ 0). p)
     (cases_lt 0 (l * r))
 
-pub no_product_stands : (n : ℕ) (a e b d m x f g : ℕ → ℕ) (j k s t r low : ℕ) → ArePlaces n a e b d m x → PairsStand n a e b d j k f g s t → IsLeastOf n (λ c. 402653184 ≤ x c) 4294967295 x low → low ≡ 4294967295 → StandsAt (j + k) 0 0 (plus_below least n (λ c. f c * g c)) r
+pub no_product_stands : (n : ℕ) (a e b d m x f g : ℕ → ℕ) (j k s t r low : ℕ) → ArePlaces n a e b d m x → PairsStand n a e b d j k f g s t → IsLeastOf n (λ c. 1879048192 ≤ x c) 4294967295 x low → low ≡ 4294967295 → StandsAt (j + k) 0 0 (plus_below least n (λ c. f c * g c)) r
 no_product_stands n a e b d m x f g j k s t r low p h l z =
     absent_stands (j + k) (plus_below least n (λ c. f c * g c)) r
     (plus_below-folded least n (λ c. f c * g c)
@@ -130,12 +130,12 @@ some_place n m x low value q l i f v =
     (λ (o : 18446744073709551615 ≤ value). (q, l, omega arith, omega arith, omega arith))
     (cases_lt value 18446744073709551615)
 
-found : (n : ℕ) (a e b d m x : ℕ → ℕ) (low value : ℕ) → ArePlaces n a e b d m x → IsLeastOf n (λ c. 402653184 ≤ x c) 4294967295 x low → low < 4294967295
+found : (n : ℕ) (a e b d m x : ℕ → ℕ) (low value : ℕ) → ArePlaces n a e b d m x → IsLeastOf n (λ c. 1879048192 ≤ x c) 4294967295 x low → low < 4294967295
     → IsLeastOf n (λ c. IsNextTo low (x c)) 18446744073709551615 (λ c. m c * 2 ^ (x c - low)) value → IsFound n m x low value
 found n a e b d m x low value p l o v =
     let q = l.attained o in
     let i : x q.0 ≡ low = q.3 in
-    let r : 402653184 ≤ x q.0 = q.2 in
+    let r : 1879048192 ≤ x q.0 = q.2 in
     let y = present_at (a q.0) (e q.0) (b q.0) (d q.0) (m q.0) (x q.0) (p q.0 q.1) r in
     let w = some_place n m x low value q.0 q.1 i y.fits v in
     let k : low ≤ x w.0 = w.2 in
@@ -169,7 +169,7 @@ far_greater value m a b h l o =
     let w : value * 2 ^ a ≤ 2 ^ 64 * 2 ^ a = mul-le-mul_right (2 ^ a) (omega arith) in
     omega arith
 
-found_first : (n : ℕ) (a e b d m x : ℕ → ℕ) (low value r : ℕ) → ArePlaces n a e b d m x → IsLeastOf n (λ c. 402653184 ≤ x c) 4294967295 x low
+found_first : (n : ℕ) (a e b d m x : ℕ → ℕ) (low value r : ℕ) → ArePlaces n a e b d m x → IsLeastOf n (λ c. 1879048192 ≤ x c) 4294967295 x low
     → IsLeastOf n (λ c. IsNextTo low (x c)) 18446744073709551615 (λ c. m c * 2 ^ (x c - low)) value → value < 2 ^ 64
     → (c : ℕ) → c < n → 0 < m c → value * 2 ^ (low + r) ≤ m c * 2 ^ (x c + r)
 found_first n a e b d m x low value r p l v f c o q =
@@ -234,7 +234,7 @@ found_stands n a e b d m x f g j k s t q y low value p h w first r =
         let i : a + (64 + k) ≡ (a + 64) + k = omega arith in
         ap (λ y. v * 2 ^ y) i ∙ ap (λ y. v * y) (pow-add 2 (a + 64) k) ∙ sym (mul_assoc v (2 ^ (a + 64)) (2 ^ k))
 
-pub least_product_stands : (n : ℕ) (a e b d m x f g : ℕ → ℕ) (j k s t q y low value : ℕ) → ArePlaces n a e b d m x → PairsStand n a e b d j k f g s t → IsLeastOf n (λ c. 402653184 ≤ x c) 4294967295 x low → low < 4294967295
+pub least_product_stands : (n : ℕ) (a e b d m x f g : ℕ → ℕ) (j k s t q y low value : ℕ) → ArePlaces n a e b d m x → PairsStand n a e b d j k f g s t → IsLeastOf n (λ c. 1879048192 ≤ x c) 4294967295 x low → low < 4294967295
     → IsLeastOf n (λ c. IsNextTo low (x c)) 18446744073709551615 (λ c. m c * 2 ^ (x c - low)) value
     → IsRounded q y (value * 2 ^ (low + 64)) → StandsAt (j + k) q y (plus_below least n (λ c. f c * g c)) (s + t + 2 * n + 1)
 least_product_stands n a e b d m x f g j k s t q y low value p h l o v r =

@@ -4,6 +4,7 @@ use Rattle.std.proofs.lemmas.Nat.{pow-add, pow_pos}
 use Rattle.std.proofs.Math.Nat.{mul-le-mul_left, mul-le-mul_right, mul-lt-mul_of_pos_right, mul_assoc, mul_right_comm, le_of_mul-le-mul_right, lt_of_mul-lt-mul_right}
 use Rattle.mk_scaled.specs.Near.{IsNear, near_same, near-mul, near_width}
 use Rattle.mk_scaled.specs.Range.{IsInRange, two_to, two_to-mono, two_to-suc, two_to-small, two_to-lt, mul_at_most}
+use Rattle.mk_enclose.specs.Enclosure.{widest_grade}
 use Rattle.mk_cell.specs.Cell.{bias, StandsAt}
 use Rattle.mk_cell.specs.inner.Close.{close_width}
 
@@ -19,7 +20,7 @@ twice_at_least low high n h l =
     omega arith
 
 -- what the multiple comes to beside what the cell stands for under the shift
-pub own_multiple : (m e shift v w g : ℕ) → g ≤ 2 ^ 17 → StandsAt shift m e v (3 * g) → StandsAt 0 m e w (3 * g) → w * 2 ^ shift ≤ v + v
+pub own_multiple : (m e shift v w g : ℕ) → g ≤ widest_grade → StandsAt shift m e v (3 * g) → StandsAt 0 m e w (3 * g) → w * 2 ^ shift ≤ v + v
 own_multiple m e shift v w g l s o =
     let c = close_width (m * 2 ^ (e + 0)) (w * 2 ^ bias) (3 * g) o.lower.close in
     let h = twice_at_least (m * 2 ^ (e + 0)) (w * 2 ^ bias) (3 * g) (omega arith) c in
@@ -30,14 +31,14 @@ own_multiple m e shift v w g l s o =
     let t : (w * 2 ^ shift) * 2 ^ bias ≤ (v + v) * 2 ^ bias = omega arith in
     le_of_mul-le-mul_right t (pow_pos bias)
 
-near_twice : (low high g : ℕ) → g ≤ 2 ^ 17 → IsNear low high g → high ≤ low + low
+near_twice : (low high g : ℕ) → g ≤ widest_grade → IsNear low high g → high ≤ low + low
 near_twice low high g l h =
     let n = near_width low high g h in
     let m : high * 2 ^ 59 ≤ high * (2 ^ 60 - g) = mul-le-mul_left high (omega arith) in
     omega arith
 
 -- the upper end, from a lower one that is not above the cell's own number
-pub own_bounded : (m e shift v w g low high : ℕ) → g ≤ 2 ^ 17 → StandsAt shift m e v (3 * g) → StandsAt 0 m e w (3 * g) → low ≤ w → IsNear low high g
+pub own_bounded : (m e shift v w g low high : ℕ) → g ≤ widest_grade → StandsAt shift m e v (3 * g) → StandsAt 0 m e w (3 * g) → low ≤ w → IsNear low high g
     → high * 2 ^ shift ≤ two_to (192 * (g + 1))
 own_bounded m e shift v w g low high l s o below near =
     let x = own_multiple m e shift v w g l s o in
@@ -66,7 +67,7 @@ multiple_in_range n shift h l =
     let b = two_to-lt (2 ^ 49 + shift) (2 ^ 50) (omega arith) in
     lt_of_le_of_lt a b
 
-pub grade_in_range : (g n : ℕ) → g ≤ 2 ^ 17 → n ≤ two_to (192 * (g + 1)) → n ≤ two_to (2 ^ 49)
+pub grade_in_range : (g n : ℕ) → g ≤ widest_grade → n ≤ two_to (192 * (g + 1)) → n ≤ two_to (2 ^ 49)
 grade_in_range g n h l = le_trans l (two_to-mono (192 * (g + 1)) (2 ^ 49) (omega arith))
 
 pub near_multiple : (low high g shift : ℕ) → IsNear low high g → IsNear (low * 2 ^ shift) (high * 2 ^ shift) g

@@ -30,8 +30,8 @@ uncut m d z = rw z (div-one m)
 abbrev pub top_of : ℕ → (ℕ → ℕ) → ℕ
 top_of n e = folded max 0 n e
 
-pub top_at_most : (n : ℕ) (m e : ℕ → ℕ) → ((c : ℕ) → c < n → IsCell (m c) (e c)) → top_of n e ≤ 5 * 2 ^ 26
-top_at_most n m e h = greatest_at_most n (5 * 2 ^ 26) e (λ c l. let k = h c l in k.high)
+pub top_at_most : (n : ℕ) (m e : ℕ → ℕ) → ((c : ℕ) → c < n → IsCell (m c) (e c)) → top_of n e ≤ 13 * 2 ^ 27
+top_at_most n m e h = greatest_at_most n (13 * 2 ^ 27) e (λ c l. let k = h c l in k.high)
 
 -- a cell that is there has the greatest exponent, or none is there
 record HasTop (n : ℕ) (m e : ℕ → ℕ) : Type 0 where
@@ -39,7 +39,7 @@ record HasTop (n : ℕ) (m e : ℕ → ℕ) : Type 0 where
   within : place < n
   same : e place ≡ top_of n e
   full : 2 ^ 63 ≤ m place
-  low : 3 * 2 ^ 26 ≤ top_of n e
+  low : 7 * 2 ^ 27 ≤ top_of n e
 
 absent_digits : (m e : ℕ) → IsCell m e → e ≤ 0 → m ≡ 0
 absent_digits m e h l =
@@ -82,7 +82,7 @@ full_total n m e t =
     omega arith
 
 -- what the rounding of a total requires
-pub total_full : (n : ℕ) (m e : ℕ → ℕ) → ((c : ℕ) → c < n → IsCell (m c) (e c)) → 0 < added n (terms n m e) → (2 ^ 63 ≤ added n (terms n m e)) × (3 * 2 ^ 26 ≤ top_of n e)
+pub total_full : (n : ℕ) (m e : ℕ → ℕ) → ((c : ℕ) → c < n → IsCell (m c) (e c)) → 0 < added n (terms n m e) → (2 ^ 63 ≤ added n (terms n m e)) × (7 * 2 ^ 27 ≤ top_of n e)
 total_full n m e h p =
     ⊎_elim
     (λ (z : (c : ℕ) → c < n → m c ≡ 0). let y = no_term n m e z in absurd (omega arith))

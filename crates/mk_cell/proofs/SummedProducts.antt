@@ -19,11 +19,11 @@ use Rattle.mk_cell.proofs.Summed.{floor_of, uncut}
 abbrev pub pair_top : ℕ → (ℕ → ℕ) → (ℕ → ℕ) → ℕ
 pair_top n e d = folded max 0 n (λ c. e c + d c)
 
-pub pair_sum_at_most : (n : ℕ) (a e b d : ℕ → ℕ) → ArePairs n a e b d → (c : ℕ) → c < n → e c + d c ≤ 10 * 2 ^ 26
+pub pair_sum_at_most : (n : ℕ) (a e b d : ℕ → ℕ) → ArePairs n a e b d → (c : ℕ) → c < n → e c + d c ≤ 26 * 2 ^ 27
 pair_sum_at_most n a e b d h c l = let i = h.left c l in let j = h.right c l in let x = i.high in let y = j.high in omega arith
 
-pub pair_top_at_most : (n : ℕ) (a e b d : ℕ → ℕ) → ArePairs n a e b d → pair_top n e d ≤ 10 * 2 ^ 26
-pair_top_at_most n a e b d h = greatest_at_most n (10 * 2 ^ 26) (λ c. e c + d c) (pair_sum_at_most n a e b d h)
+pub pair_top_at_most : (n : ℕ) (a e b d : ℕ → ℕ) → ArePairs n a e b d → pair_top n e d ≤ 26 * 2 ^ 27
+pair_top_at_most n a e b d h = greatest_at_most n (26 * 2 ^ 27) (λ c. e c + d c) (pair_sum_at_most n a e b d h)
 
 -- a product of cells that are there has the greatest exponent, or none is there
 record HasTop (n : ℕ) (a e b d : ℕ → ℕ) : Type 0 where
@@ -31,7 +31,7 @@ record HasTop (n : ℕ) (a e b d : ℕ → ℕ) : Type 0 where
   within : place < n
   same : e place + d place ≡ pair_top n e d
   full : 2 ^ 126 ≤ a place * b place
-  low : 6 * 2 ^ 26 ≤ pair_top n e d
+  low : 14 * 2 ^ 27 ≤ pair_top n e d
 
 pub full_product : (m e n d : ℕ) → IsCell m e → IsCell n d → 0 < m * n → 2 ^ 126 ≤ m * n
 full_product m e n d a b p =
@@ -40,11 +40,11 @@ full_product m e n d a b p =
     let z : 2 ^ 63 * 2 ^ 63 ≤ m * n = mul-le-mul x y in
     omega arith
 
-pub there_at : (m e n d : ℕ) → IsCell m e → IsCell n d → 6 * 2 ^ 26 ≤ e + d → 0 < m * n
+pub there_at : (m e n d : ℕ) → IsCell m e → IsCell n d → 14 * 2 ^ 27 ≤ e + d → 0 < m * n
 there_at m e n d a b h =
     ⊎_elim (λ (p : 0 < m * n). p) (λ (p : m * n ≤ 0). let z = no_product m e n d a b (omega arith) in absurd (omega arith)) (cases_lt 0 (m * n))
 
-top_there : (n : ℕ) (a e b d : ℕ → ℕ) → ArePairs n a e b d → 6 * 2 ^ 26 ≤ pair_top n e d → HasTop n a e b d
+top_there : (n : ℕ) (a e b d : ℕ → ℕ) → ArePairs n a e b d → 14 * 2 ^ 27 ≤ pair_top n e d → HasTop n a e b d
 top_there n a e b d h p =
     let w : IsAt n (λ c. e c + d c) (pair_top n e d) = greatest_at n (λ c. e c + d c) (omega arith) in
     let x = h.left w.place w.within in
@@ -53,7 +53,7 @@ top_there n a e b d h p =
     let j : 0 < a w.place * b w.place = there_at (a w.place) (e w.place) (b w.place) (d w.place) x y (omega arith) in
     record { place = w.place; within = w.within; same = i; full = full_product (a w.place) (e w.place) (b w.place) (d w.place) x y j; low = p }
 
-below_top : (n : ℕ) (a e b d : ℕ → ℕ) → ArePairs n a e b d → pair_top n e d < 6 * 2 ^ 26 → (c : ℕ) → c < n → a c * b c ≡ 0
+below_top : (n : ℕ) (a e b d : ℕ → ℕ) → ArePairs n a e b d → pair_top n e d < 14 * 2 ^ 27 → (c : ℕ) → c < n → a c * b c ≡ 0
 below_top n a e b d h p c l =
     ⊎_elim
     (λ (q : 0 < a c * b c).
@@ -66,9 +66,9 @@ below_top n a e b d h p c l =
 product_top : (n : ℕ) (a e b d : ℕ → ℕ) → ArePairs n a e b d → ((c : ℕ) → c < n → a c * b c ≡ 0) ⊎ HasTop n a e b d
 product_top n a e b d h =
     ⊎_elim
-    (λ (p : pair_top n e d < 6 * 2 ^ 26). inl (below_top n a e b d h p))
-    (λ (p : 6 * 2 ^ 26 ≤ pair_top n e d). inr (top_there n a e b d h p))
-    (cases_lt (pair_top n e d) (6 * 2 ^ 26))
+    (λ (p : pair_top n e d < 14 * 2 ^ 27). inl (below_top n a e b d h p))
+    (λ (p : 14 * 2 ^ 27 ≤ pair_top n e d). inr (top_there n a e b d h p))
+    (cases_lt (pair_top n e d) (14 * 2 ^ 27))
 
 abbrev pub pair_terms : ℕ → (ℕ → ℕ) → (ℕ → ℕ) → (ℕ → ℕ) → (ℕ → ℕ) → ℕ → ℕ
 pair_terms n a e b d c = a c * b c / 2 ^ 64 / 2 ^ (pair_top n e d - (e c + d c))
@@ -87,7 +87,7 @@ full_total n a e b d t =
     let f = t.full in
     omega arith
 
-pub total_full : (n : ℕ) (a e b d : ℕ → ℕ) → ArePairs n a e b d → 0 < added n (pair_terms n a e b d) → (2 ^ 62 ≤ added n (pair_terms n a e b d)) × (6 * 2 ^ 26 ≤ pair_top n e d)
+pub total_full : (n : ℕ) (a e b d : ℕ → ℕ) → ArePairs n a e b d → 0 < added n (pair_terms n a e b d) → (2 ^ 62 ≤ added n (pair_terms n a e b d)) × (14 * 2 ^ 27 ≤ pair_top n e d)
 total_full n a e b d h p =
     ⊎_elim
     (λ (z : (c : ℕ) → c < n → a c * b c ≡ 0). let y = no_term n a e b d z in absurd (omega arith))

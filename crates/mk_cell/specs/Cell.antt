@@ -5,9 +5,9 @@ use Rattle.mk_cell.specs.declared.cell.Cell.{Cell}
 
 -- What exponents are counted from. No proof of another file computes it.
 pub bias : ℕ
-bias = 268435456
+bias = 1342177280
 
-pub bias-is : bias ≡ 268435456
+pub bias-is : bias ≡ 1342177280
 unfolding bias
 bias-is = refl
 
@@ -30,8 +30,8 @@ pub record IsForm (digits exponent : ℕ) : Type 0 where
 -- A form whose exponent leaves room for a product.
 pub record IsCell (digits exponent : ℕ) : Type 0 where
   pub form : IsForm digits exponent
-  pub low : 0 < digits → 3 * 2 ^ 26 ≤ exponent
-  pub high : exponent ≤ 5 * 2 ^ 26
+  pub low : 0 < digits → 7 * 2 ^ 27 ≤ exponent
+  pub high : exponent ≤ 13 * 2 ^ 27
 
 -- The digits times 2 ^ (exponent + shift - bias) are a lower end of the exact number, which the steps bound.
 pub record StandsAt (shift digits exponent exact steps : ℕ) : Type 0 where

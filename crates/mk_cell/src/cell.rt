@@ -3,9 +3,9 @@ ghost use Rattle.std.specs.Prelude.{◌≡◌, ℕ, ◌+◌, ◌-◌, ◌*◌, �
 ghost use Rattle.mk_cell.specs.Cell.{IsCell, IsRounded};
 
 /// What exponents are counted from.
-pub(crate) const BIAS: u32 = 1 << 28;
+pub(crate) const BIAS: u32 = 10 << 27;
 
-/// A lower end of an exact number: `digits * 2^(exponent - 2^28)`, with the first of its 64 digits set.
+/// A lower end of an exact number: `digits * 2^(exponent - 10 * 2^27)`, with the first of its 64 digits set.
 /// Absent has neither digits nor exponent, and stands for 0.
 ///
 /// A table has a *shift* common to its cells, by which exponents are raised; a cell *stands* for an
@@ -62,10 +62,10 @@ impl Cell {
 #[inline]
 pub(crate) fn rounded(total: u128, exponent: u32) -> Cell
     requires full { 0 < total → 2 ^ 62 ≤ total }
-    requires low { 0 < total → 2 ^ 28 + 1 ≤ exponent }
-    requires high { exponent ≤ 2 ^ 30 }
+    requires low { 0 < total → 10 * 2 ^ 27 + 1 ≤ exponent }
+    requires high { exponent ≤ 27 * 2 ^ 27 }
     ensures rounded { IsRounded result.digits result.exponent (total * 2 ^ exponent) }
-    ensures coarser { 2 ^ 63 ≤ total → exponent ≤ result.exponent + 2 ^ 28 }
+    ensures coarser { 2 ^ 63 ≤ total → exponent ≤ result.exponent + 10 * 2 ^ 27 }
 {
     if total == 0 {
         return Cell::ABSENT;

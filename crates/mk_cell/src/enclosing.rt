@@ -1,7 +1,7 @@
 //! The enclosure of what a cell stands for.
 ghost use Rattle.std.specs.Prelude.{◌≡◌, ℕ, ◌+◌, ◌-◌, ◌*◌, ◌^◌, ◌<◌, ◌≤◌, ◌↔◌, IfSome, IsNone};
 ghost use Rattle.mk_scaled.specs.Range.{two_to};
-ghost use Rattle.mk_enclose.specs.Enclosure.{Encloses, HasGrade, IsExact, lower_of, upper_of};
+ghost use Rattle.mk_enclose.specs.Enclosure.{Encloses, HasGrade, IsExact, lower_of, upper_of, widest_grade};
 ghost use Rattle.mk_cell.specs.Cell.{Stands};
 
 use crate::Cell;
@@ -17,7 +17,7 @@ impl Cell {
     /// `n` steps stay below `2 n + 1` places.
     pub fn enclosure(self, shift: u32, grade: u32) -> Option<Enclosure>
         requires grade_at_least { 1 ≤ grade }
-        requires grade_at_most { grade ≤ 2 ^ 17 }
+        requires grade_at_most { grade ≤ widest_grade }
         requires stands { (v : ℕ) × Stands shift self v (3 * grade) }
         ensures absent { (v : ℕ) → Stands shift self v (3 * grade) → (IsNone result ↔ (v ≡ 0)) }
         ensures encloses { (v : ℕ) → Stands shift self v (3 * grade) → IfSome result (λ e. Encloses e v) }
@@ -40,7 +40,7 @@ impl Cell {
     /// quotient is below `2^63`, however great the number is.
     pub fn own_enclosure(self, shift: u32, grade: u32) -> Option<Enclosure>
         requires grade_at_least { 1 ≤ grade }
-        requires grade_at_most { grade ≤ 2 ^ 17 }
+        requires grade_at_most { grade ≤ widest_grade }
         requires shifted { (v : ℕ) × Stands shift self v (3 * grade) }
         requires stands { (w : ℕ) × Stands 0 self w (3 * grade) }
         ensures absent { (w : ℕ) → Stands 0 self w (3 * grade) → (IsNone result ↔ (w ≡ 0)) }
@@ -61,7 +61,7 @@ impl Cell {
 fn above(digits: u64, exponent: u64, grade: u32) -> Enclosure
     requires full { 2 ^ 63 ≤ digits }
     requires exponent_at_most { exponent ≤ 2 ^ 34 }
-    requires grade_at_most { grade ≤ 2 ^ 17 }
+    requires grade_at_most { grade ≤ widest_grade }
     ensures lower { lower_of result ≡ digits * 2 ^ exponent }
     ensures reaches { (digits + 6 * grade + 1) * 2 ^ exponent ≤ upper_of result }
     ensures within { upper_of result ≤ (digits + 6 * grade + 2) * 2 ^ exponent }

@@ -9,7 +9,7 @@ use crate::{Cell, cell};
 
 /// What the exponents of the product of two cells that are there come to at least. An absent one has
 /// less.
-const PRODUCT_LOW: u32 = 6 << 26;
+const PRODUCT_LOW: u32 = 14 << 27;
 
 /// A rank behind that of each cell that is there.
 const LAST: u128 = (u32::MAX as u128) << 64;
@@ -95,8 +95,8 @@ fn rank(digits: u64, exponent: u32) -> u128
 /// below it.
 fn least_places(places: &[u64], exponents: &[u32], lowest: u32) -> u64
     requires same_length { length exponents.now ≡ length places.now }
-    requires small { (c : ℕ) → c < length places.now → slice_index exponents.now c ≤ 2 ^ 30 }
-    requires lowest_at_most { lowest ≤ 2 ^ 30 }
+    requires small { (c : ℕ) → c < length places.now → slice_index exponents.now c ≤ 27 * 2 ^ 27 }
+    requires lowest_at_most { lowest ≤ 27 * 2 ^ 27 }
     ensures { IsLeastOf (length places.now) (λ c. IsNextTo lowest (slice_index exponents.now c)) u64.MAX
         (λ c. slice_index places.now c * 2 ^ (slice_index exponents.now c - lowest)) result }
 {

@@ -1,5 +1,5 @@
 -- What an enclosure says of an exact number.
-use Rattle.std.specs.Prelude.{◌≡◌, ℕ, ◌≤◌}
+use Rattle.std.specs.Prelude.{◌≡◌, ℕ, ◌-◌, ◌^◌, ◌≤◌}
 use Rattle.mk_scaled.specs.Near.{IsNear}
 use Rattle.mk_enclose.specs.declared.enclosure.Enclosure.{Enclosure}
 
@@ -18,6 +18,10 @@ pub record Encloses (e : Enclosure) (number : ℕ) : Type 0 where
 -- the upper end is at most the lower one times (1 + 2 ^ -60) ^ grade
 pub record HasGrade (e : Enclosure) (grade : ℕ) : Type 0 where
   pub near : IsNear e.lo e.hi grade
+
+-- up to this grade the ends are within one part in 2 ^ 40 of each other
+abbrev pub widest_grade : ℕ
+widest_grade = 2 ^ 20 - 1
 
 -- nothing was rounded
 pub record IsExact (e : Enclosure) : Type 0 where

@@ -20,7 +20,7 @@ impl Enclosure {
     ghost use Rattle.std.specs.Int.{div_ceil};
     ghost use Rattle.mk_scaled.specs.Range.{IsInRange};
     ghost use Rattle.mk_scaled.specs.Rounding.{IsGreatestBelow, IsLeastAbove};
-    ghost use Rattle.mk_enclose.specs.Enclosure.{lower_of, upper_of, Encloses, HasGrade, IsExact};
+    ghost use Rattle.mk_enclose.specs.Enclosure.{lower_of, upper_of, Encloses, HasGrade, IsExact, widest_grade};
 
     /// The number `n` alone, at grade 0.
     pub fn exact(n: u64) -> Enclosure
@@ -58,12 +58,12 @@ impl Enclosure {
         self.lo
     }
 
-    /// The upper end. A grade of at most `2^17` leaves it within one part in `2^40` of the lower end.
+    /// The upper end. A grade below `2^20` leaves it within one part in `2^40` of the lower end.
     #[inline]
     pub fn hi(&self) -> Scaled
         ensures value { result ≡ upper_of self.now }
         ensures ordered { lower_of self.now ≤ result }
-        ensures narrow { (g : ℕ) → g ≤ 2 ^ 17 → HasGrade self.now g → result * 2 ^ 40 ≤ lower_of self.now * (2 ^ 40 + 1) }
+        ensures narrow { (g : ℕ) → g ≤ widest_grade → HasGrade self.now g → result * 2 ^ 40 ≤ lower_of self.now * (2 ^ 40 + 1) }
     {
         self.hi
     }
@@ -156,7 +156,7 @@ impl Enclosure {
     /// Bounds on `num * unit / den` in whole units, where the enclosed `num` is at most the enclosed
     /// `den`: a floor below it, and a ceiling above it that is at most `unit`.
     ///
-    /// At grades of at most `2^17` the two are at most 2 units apart.
+    /// At grades below `2^20` the two are at most 2 units apart.
     pub fn parts(num: &Enclosure, den: &Enclosure, unit: u64) -> (u64, u64)
         requires part { lower_of num.now ≤ upper_of den.now }
         requires unit_at_most { unit ≤ 2 ^ 34 }
@@ -164,7 +164,7 @@ impl Enclosure {
         ensures high { result.1 ≡ min unit (div_ceil (upper_of num.now * unit) (lower_of den.now)) }
         ensures below { (v w : ℕ) → Encloses num.now v → Encloses den.now w → result.0 * w ≤ v * unit }
         ensures above { (v w : ℕ) → Encloses num.now v → Encloses den.now w → v ≤ w → v * unit ≤ result.1 * w }
-        ensures narrow { (g : ℕ) → g ≤ 2 ^ 17 → HasGrade num.now g → HasGrade den.now g → result.1 ≤ result.0 + 2 }
+        ensures narrow { (g : ℕ) → g ≤ widest_grade → HasGrade num.now g → HasGrade den.now g → result.1 ≤ result.0 + 2 }
     {
         (
             Self::whole_part(num, den, unit),

@@ -165,7 +165,7 @@ left_cell R reached od oe d e k more c room h new l =
     let f = room.few_steps in
     cell_left R reached od oe d e c h new (has_room k (slice_index od c) (slice_index oe c) (room.numbers c) room.steps (let s = room.small_shift in omega (arith, s)) (omega arith) (room.stand.each c l))
 
-pub whole_cell : (shift digits exponent n : ℕ) → shift < 2 ^ 25 → StandsAt shift digits exponent n 0 → IsCell digits exponent
+pub whole_cell : (shift digits exponent n : ℕ) → shift < 2 ^ 27 → StandsAt shift digits exponent n 0 → IsCell digits exponent
 whole_cell shift digits exponent n l s = has_room shift digits exponent n 0 l (omega arith) s
 
 pub room_cell : (d e : List ℕ) (k more c : ℕ) → HaveRoom k d e more → c < length d → IsCell (slice_index d c) (slice_index e c)

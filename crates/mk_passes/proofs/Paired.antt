@@ -10,7 +10,7 @@ use Rattle.mk_states.proofs.Sums.{plus_over-map}
 use Rattle.mk_cell.specs.Passes.{plus_below}
 use Rattle.mk_scaled.specs.Range.{two_to, two_to-small, two_to-lt, mul_at_most, exponent_below, pow-lt_reflects}
 use Rattle.mk_cell.specs.Cell.{bias, bias-is, IsCell, StandsAt, AllStand}
-use Rattle.mk_cell.specs.inner.Laws.{stands_with_more}
+use Rattle.mk_cell.specs.inner.Laws.{stands_with_more, has_room}
 use Rattle.mk_cell.specs.inner.LowerEnd.{at_least_one}
 use Rattle.std.proofs.lemmas.List.Elements.{All-map}
 use Rattle.mk_passes.specs.Blank.{one_digits, one_exponent, filled}
@@ -20,42 +20,6 @@ use Rattle.mk_passes.proofs.Blocked.{AreGathered, block_within, gathered_all}
 use Rattle.mk_passes.proofs.Filled.{one_at, filled_full}
 use Rattle.mk_passes.proofs.OnesSum.{times_one}
 use Rattle.mk_scope.proofs.Reached.{All_unmap}
-
--- ---- a product of two cells leaves room for one more
-
-low_room : (shift digits exponent v n : ℕ) → shift < 2 ^ 25 → StandsAt shift digits exponent v n → 0 < digits → 3 * 2 ^ 26 ≤ exponent
-low_room shift digits exponent v n h s p =
-    let f = s.form in
-    let d = f.fits in
-    let there : 0 < digits * 2 ^ (exponent + shift) = let m : digits * 1 ≤ digits * 2 ^ (exponent + shift) = mul-le-mul_left digits (pow_pos (exponent + shift)) in omega arith in
-    let one = at_least_one (digits * 2 ^ (exponent + shift)) v (2 ^ bias) n s.lower there in
-    let up : digits * 2 ^ (exponent + shift) < 2 ^ (64 + (exponent + shift)) = shl_below digits 64 (exponent + shift) d in
-    let e : bias < 64 + (exponent + shift) = pow-lt_reflects bias (64 + (exponent + shift)) (lt_of_le_of_lt one up) in
-    let b = bias-is in
-    omega arith
-
-high_room : (shift digits exponent v n : ℕ) → n + 1 < 2 ^ 20 → StandsAt shift digits exponent v n → 0 < digits → exponent ≤ 5 * 2 ^ 26
-high_room shift digits exponent v n h s p =
-    let l = s.lower in
-    let size = s.size in
-    let v' : v ≤ two_to (64 * (n + 1)) = omega arith in
-    let m : v * 2 ^ bias ≤ two_to (64 * (n + 1) + bias) = mul_at_most v (2 ^ bias) (64 * (n + 1)) bias v' (two_to-small bias bias (omega arith)) in
-    let t : two_to (64 * (n + 1) + bias) < two_to (64 * (n + 1) + bias + 1) = two_to-lt (64 * (n + 1) + bias) (64 * (n + 1) + bias + 1) (omega arith) in
-    let u : digits * 2 ^ (exponent + shift) < two_to (64 * (n + 1) + bias + 1) = let y = l.below in omega arith in
-    let e = exponent_below digits (exponent + shift) 63 (64 * (n + 1) + bias + 1) (let f = s.form in f.full p) u in
-    let b = bias-is in
-    omega arith
-
-pub product_cell : (shift digits exponent v n : ℕ) → shift < 2 ^ 25 → n + 1 < 2 ^ 20 → StandsAt shift digits exponent v n → IsCell digits exponent
-product_cell shift digits exponent v n h k s = record {
-  form = s.form;
-  low = low_room shift digits exponent v n h s;
-  high =
-      ⊎_elim
-      (λ (p : 0 < digits). high_room shift digits exponent v n k s p)
-      (λ (p : digits ≤ 0). let f = s.form in let z = f.absent (omega arith) in omega arith)
-      (cases_lt 0 digits);
-}
 
 -- ---- what is gathered
 
@@ -193,7 +157,7 @@ onto_there xs onto count h within = λ i z l. h (get_or xs i z) 0 (within i z l)
 pub made_cell : (d e md me : List ℕ) (j k more : ℕ) → 130 ≤ more → (r : HaveRoom j d e more) → (s : HaveRoom k md me 1) → (q x v : ℕ) → StandsAt (j + k) q x v (r.steps + s.steps + 129) → IsCell q x
 made_cell d e md me j k more many r s q x v h =
     let a = r.few_steps in let b = s.few_steps in let y = r.small_shift in let z = s.small_shift in
-    product_cell (j + k) q x v (r.steps + s.steps + 129) (omega (arith, y, z)) (omega (arith, a, b, many)) h
+    has_room (j + k) q x v (r.steps + s.steps + 129) (omega (arith, y, z)) (omega (arith, a, b, many)) h
 
 module _ (plus : ℕ → ℕ → ℕ) (d e md me : List ℕ) (goes : ℕ → ℕ) (base : ℕ) (offsets onto : List ℕ) (onto_is : cells_at base offsets ≡ onto) (beside : ℕ) (long : length offsets ≡ beside) (q x : ℕ) where
   pub blank_made : (count : ℕ) (xs ys : List ℕ) → md ≡ filled one_digits count xs → me ≡ filled one_exponent count ys → length xs ≡ 0 → length ys ≡ 0 → All (λ c. goes c < count) onto

@@ -6,13 +6,13 @@ pub one_digits : ℕ
 one_digits = 9223372036854775808
 
 pub one_exponent : ℕ
-one_exponent = 268435393
+one_exponent = 1342177217
 
 pub one_digits-is : one_digits ≡ 9223372036854775808
 unfolding one_digits
 one_digits-is = refl
 
-pub one_exponent-is : one_exponent ≡ 268435393
+pub one_exponent-is : one_exponent ≡ 1342177217
 unfolding one_exponent
 one_exponent-is = refl
 

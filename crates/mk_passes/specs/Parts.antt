@@ -8,10 +8,10 @@ use Rattle.mk_scope.specs.Runs.{IsAmong}
 
 -- below these every cell leaves room for a product, and so does a product of two
 abbrev pub max_steps : ℕ
-max_steps = 2 ^ 19
+max_steps = 3 * 2 ^ 20
 
 abbrev pub max_shift : ℕ
-max_shift = 2 ^ 24
+max_shift = 2 ^ 26
 
 -- both arrays have a place for each cell of the scope
 pub record IsFull (scope : ScopeOf) (digits exponents : List ℕ) : Type 0 where

@@ -30,7 +30,7 @@ pub fn one() -> Cell
 {
     Cell {
         digits: 1 << 63,
-        exponent: (1 << 28) - 63,
+        exponent: (10 << 27) - 63,
     }
 }
 

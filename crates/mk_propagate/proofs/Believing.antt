@@ -40,7 +40,7 @@ use Rattle.mk_propagate.proofs.Cores.{core_part}
 use Rattle.mk_propagate.proofs.Margins.{apart, parted, total_over, values_of_part}
 use Rattle.mk_propagate.proofs.Inputs.{times_inputs, times_same}
 use Rattle.mk_propagate.proofs.Ratios.{ratios_counted, ratios_read, none_gathered}
-use Rattle.mk_propagate.proofs.Grading.{few_grades, reading_steps}
+use Rattle.mk_propagate.proofs.Grading.{few_grades, reading_steps, most_parts}
 use Rattle.mk_propagate.proofs.Readings.{pairs_read, read_there, belief_is_read, belief_at_most}
 use Rattle.mk_propagate.proofs.Messages.{message_within, shared_in_core, core_cells, core_room, few_core_steps, table_room, whole_room}
 use Rattle.mk_propagate.proofs.Placed.{sum_same}
@@ -105,7 +105,7 @@ module _ (plus : ℕ → ℕ → ℕ) (law : Lawful plus) (flow : FlowOf) (produ
   pub some_cells : 1 ≤ cells_in table.scope
   some_cells = let s = ap cells_in scope_is in let e = clique_counted p.network tree k in let c = cells_positive p.network (clique_at tree k) has.shape_is.legal in omega (arith, s, e, c)
 
-  pub few_before : flow.factors + cells + 2 * length tree.cliques ≤ 99582
+  pub few_before : flow.factors + cells + 2 * length tree.cliques ≤ most_parts
   few_before = let a = all_cells_are in let n = has.counted in let l = few_grades flow.shape p has.shape_is has.placing in omega (arith, a, n, l)
 
   -- the total

@@ -4,11 +4,13 @@ use Rattle.std.proofs.lemmas.Bool.{cases_eq, and_parts}
 use Rattle.std.proofs.Math.Nat.{suc-mul, mul-le-mul}
 use Rattle.std.proofs.Math.Seq.{take-length}
 use Rattle.std.proofs.lemmas.List.Sums.{sum_by_more, sum_by-cons}
+use Rattle.mk_net.specs.Bounds.{max_cells}
 use Rattle.mk_net.specs.Sets.{no_variables}
 use Rattle.mk_sums.specs.Trees.{sum_of, linked_to, linked}
 use Rattle.mk_sums.proofs.Grades.{grades_add, read_grades_add}
-use Rattle.mk_tree.specs.Given.{GivenTree, clique_at, link_of}
+use Rattle.mk_tree.specs.Given.{GivenTree, clique_at, link_of, max_tree_cliques}
 use Rattle.mk_tree.specs.Tests.{cells_of}
+use Rattle.mk_engine.specs.Meaning.{max_factors}
 use Rattle.mk_propagate.specs.Shapes.{ShapeOf, IsShapeFor, IsClique, clique_cells, neighbours}
 use Rattle.mk_propagate.specs.Placings.{Placing, PlacedFactor, IsPlacing, factors_in}
 use Rattle.mk_propagate.specs.Flows.{exact_message_grade, all_cells, reading_grade}
@@ -98,6 +100,10 @@ fewer_steps (suc s) (suc q) K (suc p) C e f some =
     let l = pair_at_most q p in
     omega (arith, m, l, f)
 
+-- the factors and cells that there may be, and two for each clique
+abbrev pub most_parts : ℕ
+most_parts = max_factors + max_cells + 2 * max_tree_cliques
+
 module _ (shape : ShapeOf) (p : Placing) (is : IsShapeFor shape p.network) (placing : IsPlacing shape.tree p) where
   abbrev tree : GivenTree
   tree = shape.tree
@@ -106,7 +112,7 @@ module _ (shape : ShapeOf) (p : Placing) (is : IsShapeFor shape p.network) (plac
   abbrev pub whole_grade : ℕ
   whole_grade = sum_of (λ j. true) (length tree.cliques) (λ j. factors_in p j + clique_cells p.network tree j + 2)
 
-  few_cells : all_cells tree p ≤ 32768
+  few_cells : all_cells tree p ≤ max_cells
   few_cells =
       let e = sum_same (λ j. true) (length tree.cliques) (clique_cells p.network tree) (λ j. cells_of p.network (clique_at tree j)) (λ j _ _ _. clique_counted p.network tree j) in
       let f = sum_of_first (cells_of p.network) tree.cliques no_variables (length tree.cliques) (omega arith) in
@@ -123,7 +129,7 @@ module _ (shape : ShapeOf) (p : Placing) (is : IsShapeFor shape p.network) (plac
       let d = factors_at_most m p.factors in
       omega (arith, a, b, c, d)
 
-  pub few_grades : length p.factors + all_cells tree p + 2 * length tree.cliques ≤ 99582
+  pub few_grades : length p.factors + all_cells tree p + 2 * length tree.cliques ≤ most_parts
   few_grades = let c = few_cells in let m = is.tree_is.linked.few in let l = placing.few in omega (arith, c, m, l)
 
   -- what is gathered in a clique with its cells, and twice one for each message, is within the whole
@@ -165,10 +171,10 @@ module _ (shape : ShapeOf) (p : Placing) (is : IsShapeFor shape p.network) (plac
         let t = sum_of_at_most (is_input tree k receiver) (is_input tree k receiver) m (λ i. exact_message_grade tree p i k) (λ i. exact_message_grade tree p i k + 2) (λ i h. h) (λ i. omega arith) in
         omega (arith, e, t)
 
-    pub few_steps : factors_in p k + gathered_steps tree p k receiver (neighbours tree k) + 2 * clique_cells p.network tree k ≤ 3 * 99582
+    pub few_steps : factors_in p k + gathered_steps tree p k receiver (neighbours tree k) + 2 * clique_cells p.network tree k ≤ 3 * most_parts
     few_steps = let a = steps_at_most in let b = within_whole in let c = whole_parts in let d = few_grades in omega (arith, a, b, c, d)
 
-    pub few_factors : factors_in p k + gathered_factors tree p k receiver (neighbours tree k) ≤ 99582
+    pub few_factors : factors_in p k + gathered_factors tree p k receiver (neighbours tree k) ≤ most_parts
     few_factors = let a = factors_at_most_grades in let b = within_whole in let c = whole_parts in let d = few_grades in omega (arith, a, b, c, d)
 
     -- a reading has three steps for each of its grade

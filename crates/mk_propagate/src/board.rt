@@ -6,6 +6,7 @@ ghost use Rattle.mk_net.specs.Asked.{ratio_pairs};
 ghost use Rattle.mk_net.specs.Bounds.{max_clique_cells};
 ghost use Rattle.mk_net.specs.Named.{variable_at};
 ghost use Rattle.mk_net.specs.Trades.{trade_ratio};
+ghost use Rattle.mk_enclose.specs.Enclosure.{widest_grade};
 ghost use Rattle.mk_scope.specs.Scopes.{HasEvent, HasOneEach, HasSized, cells_in, has_variable};
 ghost use Rattle.mk_table.specs.Tables.{HasRoom};
 ghost use Rattle.mk_engine.specs.Meaning.{RowsOf, SupportOf};
@@ -270,7 +271,7 @@ impl<R: Semiring> Board<R> {
         requires room { CanSum (table_of self.now clique) }
         requires into_room { HasRoom (product_of self.now clique) 1 }
         requires grade_at_least { 1 ≤ grade }
-        requires grade_at_most { grade ≤ 2 ^ 17 }
+        requires grade_at_most { grade ≤ widest_grade }
         requires total { HaveTotal (table_of self.now clique) (product_of self.now clique) grade }
         ensures { IsTotal R.encloses R.has_grade R.is_exact R.plus_of (table_of self.now clique)
             (product_of self.now clique) event.now grade result }
@@ -302,7 +303,7 @@ impl<R: Semiring> Board<R> {
         requires room { CanSum (core_of self.now clique) }
         requires into_room { HasRoom (product_of self.now clique) 1 }
         requires grade_at_least { 1 ≤ grade }
-        requires grade_at_most { grade ≤ 2 ^ 17 }
+        requires grade_at_most { grade ≤ widest_grade }
         requires total { HaveTotal (core_of self.now clique) (product_of self.now clique) grade }
         ensures { IsTotal R.encloses R.has_grade R.is_exact R.plus_of (core_of self.now clique)
             (product_of self.now clique) event.now grade result }

@@ -1,6 +1,7 @@
 //! Beliefs, as they are read in a clique.
 
 ghost use Rattle.std.specs.Prelude.{◌≡◌, ◌&&◌, ◌+◌, ◌*◌, ◌^◌, ◌<◌, ◌≤◌, length, true};
+ghost use Rattle.mk_enclose.specs.Enclosure.{widest_grade};
 ghost use Rattle.mk_table.specs.Lists.{table_in};
 ghost use Rattle.mk_scope.specs.Scopes.{HasEvent};
 ghost use Rattle.mk_table.specs.Tables.{HasRoom, is_untouched};
@@ -77,7 +78,7 @@ pub(crate) fn value_of<R: Semiring>(
     requires room { CanSum (table_in tables.now both.0) }
     requires into_room { HasRoom (table_in tables.now both.1) 1 }
     requires grade_at_least { 1 ≤ grade }
-    requires grade_at_most { grade ≤ 2 ^ 17 }
+    requires grade_at_most { grade ≤ widest_grade }
     requires total { HaveTotal (table_in tables.now both.0) (table_in tables.now both.1) grade }
     ensures { IsTotal R.encloses R.has_grade R.is_exact R.plus_of
         (table_in tables.now both.0) (table_in tables.now both.1) event.now grade result }

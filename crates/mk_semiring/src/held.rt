@@ -1,6 +1,7 @@
 //! The value that the semirings share.
 ghost use Rattle.std.specs.Prelude.{◌≡◌, ℕ, ◌+◌, ◌*◌, ◌^◌, ◌<◌, ◌≤◌, IsTrue};
 ghost use Rattle.mk_net.specs.Bounds.{number_limit};
+ghost use Rattle.mk_enclose.specs.Enclosure.{widest_grade};
 ghost use Rattle.mk_cell.specs.Cell.{Stands, IsOwnOf};
 ghost use Rattle.mk_semiring.specs.Held.{HeldEncloses, HasHeldGrade, IsHeldExact, CanTimes};
 
@@ -47,7 +48,7 @@ pub fn product(a: &Held, b: &Held) -> Held
 /// number of its own.
 pub fn of_cell(cell: Cell, shift: u32, untouched: bool, grade: u32) -> Held
     requires grade_at_least { 1 ≤ grade }
-    requires grade_at_most { grade ≤ 2 ^ 17 }
+    requires grade_at_most { grade ≤ widest_grade }
     requires stands { (v : ℕ) × Stands shift cell v (3 * grade) }
     requires own { IsTrue untouched → (w : ℕ) × Stands 0 cell w (3 * grade) }
     ensures value { (v : ℕ) → Stands shift cell v (3 * grade) → (IsTrue untouched → IsOwnOf shift cell v (3 * grade)) → HeldEncloses result v }

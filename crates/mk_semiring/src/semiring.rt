@@ -2,6 +2,7 @@
 ghost use Rattle.std.specs.Prelude.{◌≡◌, ℕ, ◌+◌, ◌*◌, ◌^◌, ◌<◌, ◌≤◌, length, IsTrue};
 ghost use Rattle.mk_net.specs.Bounds.{number_limit};
 ghost use Rattle.mk_states.specs.Lawful.{Lawful};
+ghost use Rattle.mk_enclose.specs.Enclosure.{widest_grade};
 ghost use Rattle.mk_cell.specs.Cell.{AllStand, AreCells, Stands, IsOwnOf};
 ghost use Rattle.mk_cell.specs.Passes.{plus_below};
 ghost use Rattle.mk_cell.specs.Products.{AreUnrounded, PairsStand};
@@ -84,7 +85,7 @@ pub trait Semiring {
     /// cell's number where this is the own one times `2^shift`.
     fn of_cell(cell: Cell, shift: u32, untouched: bool, grade: u32) -> Self::Value
         requires grade_at_least { 1 ≤ grade }
-        requires grade_at_most { grade ≤ 2 ^ 17 }
+        requires grade_at_most { grade ≤ widest_grade }
         requires stands { (v : ℕ) × Stands shift cell v (3 * grade) }
         requires own { IsTrue untouched → (w : ℕ) × Stands 0 cell w (3 * grade) }
         ensures value { (v : ℕ) → Stands shift cell v (3 * grade) → (IsTrue untouched → IsOwnOf shift cell v (3 * grade)) → encloses result v }

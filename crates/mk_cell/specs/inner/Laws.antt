@@ -40,7 +40,7 @@ untouched_stands shift more digits exponent v n h s = record {
         ap (λ y. q * 2 ^ y) i ∙ ap (λ y. q * y) (pow-add 2 (e + k) m) ∙ sym (mul_assoc q (2 ^ (e + k)) (2 ^ m))
 
 -- Under a shift and in steps of the sizes that an engine comes to, a cell leaves room for a product.
-low_room : (shift digits exponent v n : ℕ) → shift < 2 ^ 25 → StandsAt shift digits exponent v n → 0 < digits → 3 * 2 ^ 26 ≤ exponent
+low_room : (shift digits exponent v n : ℕ) → shift < 2 ^ 27 → StandsAt shift digits exponent v n → 0 < digits → 7 * 2 ^ 27 ≤ exponent
 low_room shift digits exponent v n h s p =
     let f = s.form in
     let d = f.fits in
@@ -51,7 +51,7 @@ low_room shift digits exponent v n h s p =
     let b = bias-is in
     omega arith
 
-high_room : (shift digits exponent v n : ℕ) → n < 2 ^ 19 → StandsAt shift digits exponent v n → 0 < digits → exponent ≤ 5 * 2 ^ 26
+high_room : (shift digits exponent v n : ℕ) → n < 6 * 2 ^ 20 → StandsAt shift digits exponent v n → 0 < digits → exponent ≤ 13 * 2 ^ 27
 high_room shift digits exponent v n h s p =
     let l = s.lower in
     let size = s.size in
@@ -63,7 +63,7 @@ high_room shift digits exponent v n h s p =
     let b = bias-is in
     omega arith
 
-pub has_room : (shift digits exponent v n : ℕ) → shift < 2 ^ 25 → n < 2 ^ 19 → StandsAt shift digits exponent v n → IsCell digits exponent
+pub has_room : (shift digits exponent v n : ℕ) → shift < 2 ^ 27 → n < 6 * 2 ^ 20 → StandsAt shift digits exponent v n → IsCell digits exponent
 has_room shift digits exponent v n h k s = record {
   form = s.form;
   low = low_room shift digits exponent v n h s;
@@ -74,7 +74,7 @@ has_room shift digits exponent v n h k s = record {
       (cases_lt 0 digits);
 }
 
-pub all_have_room : (shift : ℕ) (digits exponents : List ℕ) (f : ℕ → ℕ) (n : ℕ) → shift < 2 ^ 25 → n < 2 ^ 19 → length exponents ≡ length digits → AllStand shift digits exponents f n → AreCells digits exponents
+pub all_have_room : (shift : ℕ) (digits exponents : List ℕ) (f : ℕ → ℕ) (n : ℕ) → shift < 2 ^ 27 → n < 6 * 2 ^ 20 → length exponents ≡ length digits → AllStand shift digits exponents f n → AreCells digits exponents
 all_have_room shift digits exponents f n h k e s = record {
   same_length = e;
   each = λ c l. has_room shift (slice_index digits c) (slice_index exponents c) (f c) n h k (s.each c l);

@@ -8,8 +8,8 @@ use Rattle.mk_cell.proofs.sums.sum.Goals as goal
 total_is : (n top total : ℕ) (m e : ℕ → ℕ) → top ≡ top_of n e → total ≡ added n (λ c. m c / 2 ^ (top - e c)) → total ≡ added n (terms n m e)
 total_is n top total m e h t = t ∙ ap (λ y. added n (λ c. m c / 2 ^ (y - e c))) h
 
-rounded_is : (n top total q x : ℕ) (m e : ℕ → ℕ) → top ≡ top_of n e → total ≡ added n (terms n m e) → IsRounded q x (total * 2 ^ (top + 268435456)) → IsRounded q x (added n (terms n m e) * 2 ^ (top_of n e + bias))
-rounded_is n top total q x m e h t r = let i : top_of n e + bias ≡ top + 268435456 = let b = bias-is in omega arith in rw (i, ← t) r
+rounded_is : (n top total q x : ℕ) (m e : ℕ → ℕ) → top ≡ top_of n e → total ≡ added n (terms n m e) → IsRounded q x (total * 2 ^ (top + 1342177280)) → IsRounded q x (added n (terms n m e) * 2 ^ (top_of n e + bias))
+rounded_is n top total q x m e h t r = let i : top_of n e + bias ≡ top + 1342177280 = let b = bias-is in omega arith in rw (i, ← t) r
 
 pub total-requires-clause-top_at_least : goal.total-requires-clause-top_at_least
 total-requires-clause-top_at_least c = λ i l.

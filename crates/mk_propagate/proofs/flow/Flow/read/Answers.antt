@@ -2,6 +2,7 @@ use Rattle.std.proofs.Common.{◌≡◌, ℕ, ◌+◌, ◌-◌, ◌*◌, ◌≤�
 use Rattle.std.proofs.Common.{slice_index_or, refl, sym, ap, subst, ◌∙◌, arith}
 use Rattle.std.specs.List.{list_all}
 use Rattle.mk_net.specs.declared.words.Pair.{Pair}
+use Rattle.mk_enclose.specs.Enclosure.{widest_grade}
 use Rattle.mk_scope.specs.Scopes.{cells_in}
 use Rattle.mk_table.specs.Tables.{TableOf}
 use Rattle.mk_propagate.specs.Shapes.{ShapeOf, IsClique, clique_scope, core_scope, in_core}
@@ -14,6 +15,7 @@ use Rattle.mk_propagate.specs.inner.Gathered.{HasInto, HasGathered}
 use Rattle.mk_propagate.specs.inner.Boards.{BoardOf, table_of, core_of, product_of, with_core}
 use Rattle.mk_propagate.specs.inner.Boards.{with_product}
 use Rattle.mk_propagate.proofs.Boards.{read_there, read_of}
+use Rattle.mk_propagate.proofs.Grading.{most_parts}
 use Rattle.mk_propagate.proofs.Calls.{flow_over, kept_messages}
 use Rattle.mk_propagate.proofs.Sending.{can_take}
 use Rattle.mk_propagate.proofs.Marks.{table_placed, sums_before, shift_before, flow_mid, mid_keeps}
@@ -97,7 +99,7 @@ module _ (g : Over) (c : After-refresh g) where
       (sym same) c.refresh.ensures.into)
 
   -- the counts that a grade is made of
-  few : was.factors + c.self.inside.cells + 2 * length was.shape.tree.cliques ≤ 99582
+  few : was.factors + c.self.inside.cells + 2 * length was.shape.tree.cliques ≤ most_parts
   few =
       let there = into_it can.placing can.has can.right _ refl in
       few_before plus g.met.R.Semiring.lawful was _ _ c.self.invariant.kept c.args.clique
@@ -175,7 +177,7 @@ module _ (g : Over) (c : After-cells-cells g) where
   some_grade some = omega (arith, some, c.cells-cells.ensures.cells)
 
   few_grade : c.self.inside.factors + c.self.inside.cells
-      + 2 * length c.self.inside.shape.value.tree.cliques ≤ 99582 → grade ≤ 131072
+      + 2 * length c.self.inside.shape.value.tree.cliques ≤ most_parts → grade ≤ widest_grade
   few_grade few = omega (arith, few, count, c.cells-cells.ensures.few)
 
 pub sum_core-requires : goal.sum_core-requires
