@@ -81,7 +81,7 @@ module _ (network : List Variable) (tree : GivenTree) (H : List Entry) (is_open 
       pub in_range : upper_of e ≤ two_to 6000
       in_range =
           le_trans
-          (doubled (lower_of e) (upper_of e) (million ^ length network) (narrow_ends (lower_of e) (upper_of e) graded.grade graded.small graded.has.near)
+          (doubled (lower_of e) (upper_of e) (million ^ length network) (narrow_ends (lower_of e) (upper_of e) graded.grade (let few = graded.small in omega (arith, few)) graded.has.near)
           (le_trans encloses_least.lower at_most_all))
           (millions_few (length network) is_open.legal.few)
 

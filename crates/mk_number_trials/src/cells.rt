@@ -326,9 +326,9 @@ fn check_cell(rt: &impl Abort, digits: u64, exponent: u32)
         assert!(rt; exponent == 0);
     } else {
         assert!(rt; digits >= 1 << 63);
-        assert!(rt; exponent >= 3 << 26);
+        assert!(rt; exponent >= 7 << 27);
     }
-    assert!(rt; exponent <= 5 << 26);
+    assert!(rt; exponent <= 13 << 27);
 }
 
 pub(crate) fn check_cells(rt: &impl Abort, digits: &[u64], exponents: &[u32])
