@@ -119,7 +119,9 @@ divided : (factor : Factor) → 1 ≤ 2 ^ taken_out factor.net * (2 ^ 40) ^ fact
 divided factor = one-le-mul (pow_pos (taken_out factor.net)) (one-le-pow factor.trades (2 ^ 40) (omega arith))
 
 narrow : (e : Enclosure) → IsGradedWithin e (2 ^ 17) → upper_of e * 2 ^ 40 ≤ lower_of e * (2 ^ 40 + 1)
-narrow e graded = narrow_ends (lower_of e) (upper_of e) graded.grade graded.small graded.has.near
+narrow e graded =
+    let few = graded.small in
+    narrow_ends (lower_of e) (upper_of e) graded.grade (omega (arith, few)) graded.has.near
 
 ends_of : (bounds : SideBounds) (side : Side) → AreBoundsOf bounds side → AreGraded bounds
     → AreEnds (lower_of bounds.part) side.price.num (upper_of bounds.part) (lower_of bounds.whole) side.price.den (upper_of bounds.whole)

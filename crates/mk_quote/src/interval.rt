@@ -1,9 +1,10 @@
 //! The shares that serve one side of a question.
-ghost use Rattle.std.specs.Prelude.{◌≡◌, ℕ, ◌≤◌, ◌↔◌, min, IsTrue, MatchOption, IfSome};
+ghost use Rattle.std.specs.Prelude.{◌≡◌, ℕ, ◌-◌, ◌<◌, ◌≤◌, ◌↔◌, min};
+ghost use Rattle.std.specs.Prelude.{IsTrue, MatchOption, IfSome};
 ghost use Rattle.mk_net.specs.Bounds.{number_limit};
 ghost use Rattle.mk_exact.specs.Limits.{Inside, IsWithinRange};
 ghost use Rattle.mk_quote.specs.Sides.{ratio_for, Serves, interval_for};
-ghost use Rattle.mk_quote.specs.inner.Reached.{Reaches};
+ghost use Rattle.mk_quote.specs.inner.Reached.{Reaches, HoldsFirst};
 
 use crate::SideBounds;
 use crate::side::bears;
@@ -21,6 +22,13 @@ pub enum Bound {
     Borne,
     /// Units that cannot be written.
     TooMany,
+}
+
+/// The shares that may be the least to reach a bound, from `low` to `high`. A million is for none.
+#[derive(Clone, Copy)]
+pub struct Range {
+    pub low: u32,
+    pub high: u32,
 }
 
 impl SideBounds {
@@ -59,23 +67,48 @@ impl SideBounds {
         self.judge(x)
     }
 
-    /// The least share whose units reach a bound, or a million where none does.
+    /// The least share whose units reach a bound, or a million where none does. It is sought about
+    /// a guess, and then by halves.
     fn first(&self, bound: Bound) -> u32
         ensures positive { 1 ≤ result }
         ensures at_most { result ≤ 1000000 }
         ensures first { (X : ℕ) → 1 ≤ X → X ≤ 999999 → (result ≤ X) ↔ Reaches self.now bound X }
     {
-        let mut low = 1;
-        let mut high = MILLION;
-        while low < high {
-            let middle = (low + high) / 2;
-            if self.reaches(middle, bound) {
-                high = middle;
-            } else {
-                low = middle + 1;
+        let guess = self.guess(bound);
+        let all = Range {
+            low: 1,
+            high: MILLION,
+        };
+        let mut range = self.narrowed(all, guess, bound);
+        range = self.narrowed(range, guess - 1, bound);
+        while range.low < range.high {
+            range = self.narrowed(range, (range.low + range.high) / 2, bound);
+        }
+        range.low
+    }
+
+    /// What is left of a range once a share was tried. A share outside of it, or its last, tells
+    /// nothing new.
+    fn narrowed(&self, range: Range, share: u32, bound: Bound) -> Range
+        requires { HoldsFirst self.now bound range }
+        ensures holds { HoldsFirst self.now bound result }
+        ensures shorter { range.low ≤ share → share < range.high
+            → result.high - result.low < range.high - range.low }
+    {
+        if share < range.low || share >= range.high {
+            return range;
+        }
+        if self.reaches(share, bound) {
+            Range {
+                low: range.low,
+                high: share,
+            }
+        } else {
+            Range {
+                low: share + 1,
+                high: range.high,
             }
         }
-        low
     }
 
     /// Whether the units for a share reach a bound.

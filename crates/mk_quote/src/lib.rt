@@ -3,6 +3,7 @@
 #![tactic(auto)]
 
 mod bounds;
+mod guess;
 mod interval;
 mod laws;
 mod quote;
