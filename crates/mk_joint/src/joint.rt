@@ -66,7 +66,7 @@ impl<R: Semiring> Engine<R> for JointEngine<R> {
         Ok(JointEngine {
             tables,
             factors: 0,
-            chosen: CellList::new(),
+            chosen: CellList::new(alloc)?,
         })
     }
 

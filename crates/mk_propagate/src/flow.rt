@@ -32,7 +32,7 @@ pub struct Flow<R: Semiring> {
     pub(crate) summed: Vec<bool>,
     pub(crate) gathered: Vec<Gathered>,
     // Where the cells of an event are listed.
-    pub(crate) chosen: Box<CellList>,
+    pub(crate) chosen: CellList,
     // Of all cliques.
     pub(crate) cells: u32,
     pub(crate) factors: u32,
@@ -83,7 +83,7 @@ impl<R: Semiring> Flow<R> {
             board,
             summed: vec![in alloc; false; of.cliques() as usize]?,
             gathered: vec![in alloc; Gathered::Nothing; of.cliques() as usize]?,
-            chosen: Box::new(alloc, CellList::new())?,
+            chosen: CellList::new(alloc)?,
             cells: count_cells(of),
             factors: 0,
             computed: 0,

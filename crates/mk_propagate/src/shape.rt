@@ -409,8 +409,8 @@ fn separator_places(
         ≡ places_of (shape_of tree.now [] (map (λ scope. scope.value) cores.now) (map (λ scope. scope.value) separators.now)) in_link (length tree.now.cliques - 1)) }
 {
     let mut places = Vec::new(alloc);
-    let mut bases = CellList::new();
-    let mut offsets = CellList::new();
+    let mut bases = CellList::new(alloc)?;
+    let mut offsets = CellList::new(alloc)?;
     for passed in 0..tree.cliques() - 1 {
         let whole = whole_of(tree, passed + 2, in_link);
         places.push(Places::of(
@@ -436,8 +436,8 @@ fn core_places(
         ≡ core_places_of (shape_of tree.now (map (λ scope. scope.value) cliques.now) (map (λ scope. scope.value) cores.now) []) (length tree.now.cliques)) }
 {
     let mut places = Vec::new(alloc);
-    let mut bases = CellList::new();
-    let mut offsets = CellList::new();
+    let mut bases = CellList::new(alloc)?;
+    let mut offsets = CellList::new(alloc)?;
     for passed in 0..tree.cliques() {
         places.push(Places::of(
             alloc,

@@ -1,45 +1,47 @@
 //! Cells that are found by strides, without a division.
 
-ghost use Rattle.std.specs.Prelude.{◌≡◌, ℕ, ◌+◌, ◌*◌, ◌<◌, ◌≤◌, true, [], ◌∷◌, ◌++◌, All, map, filter, take, length, Option, IfSome, IfNone, ◌==◌, if◌then◌else◌, not};
+ghost use Rattle.std.specs.Prelude.{◌≡◌, ℕ, ◌+◌, ◌*◌, ◌<◌, ◌≤◌, true, [], ◌∷◌, ◌++◌, All, map, filter, take, length, max, vec_capacity, Option, IfOk, IfSome, IfNone, ◌==◌, if◌then◌else◌, not};
 ghost use Rattle.mk_net.specs.Bounds.{max_clique_cells};
 ghost use Rattle.mk_states.specs.States.{numbers_below};
 ghost use Rattle.mk_net.specs.Events.{IsEvent};
 ghost use Rattle.mk_scope.specs.inner.Strides.{repeated, lets};
 
-use mk_net::Pair;
+use mk_net::{NoMemory, Pair};
+use std::alloc::Global;
 use std::marker::Model;
 
 /// The most cells of a table.
 const MAX_CELLS: usize = 4096;
 
-/// The numbers of some cells of a scope, with room for each cell of a table.
+/// The numbers of some cells of a scope, with room for each cell of a table. No place of it is written
+/// before a list is that long.
 #[derive(Drop)]
 pub struct CellList {
-    cells: [u16; MAX_CELLS],
+    cells: Vec<u16>,
     count: usize,
 }
 
 impl Model for CellList {
-    ghost use Rattle.std.specs.Prelude.{◌≤◌, take};
-    ghost use Rattle.mk_net.specs.Bounds.{max_clique_cells};
+    ghost use Rattle.std.specs.Prelude.{take, length, vec_capacity};
     ghost use Rattle.mk_scope.specs.Cells.{ListedCells};
+    ghost use Rattle.mk_scope.specs.inner.Lists.{IsWithinRoom};
 
     ghost Value = { ListedCells };
 
-    ghost view = { λ l. record { items = take l.count l.cells } };
+    ghost view = { λ l. record { items = take l.count l.cells.items } };
 
-    ghost invariant = { λ l. l.count ≤ max_clique_cells };
+    ghost invariant = { λ l. IsWithinRoom l.count (length l.cells.items) (vec_capacity l.cells) };
 }
 
 impl CellList {
-    /// No cells.
-    pub fn new() -> CellList
-        ensures { result.items ≡ [] }
+    /// No cells. It fails where memory is wanting.
+    pub fn new(alloc: Global) -> Result<CellList, NoMemory>
+        ensures { IfOk result (λ list. list.items ≡ []) }
     {
-        CellList {
-            cells: [0; MAX_CELLS],
+        Ok(CellList {
+            cells: Vec::with_capacity(alloc, MAX_CELLS)?,
             count: 0,
-        }
+        })
     }
 
     /// Lists no cells.
@@ -68,8 +70,21 @@ impl CellList {
 pub(crate) fn begin(cells: &mut CellList)
     ensures { cells.new.items ≡ 0 ∷ [] }
 {
+    reach(&mut cells.cells, 1);
     cells.cells[0] = 0;
     cells.count = 1;
+}
+
+/// Has so many places written, whatever stands in those that are new.
+fn reach(written: &mut Vec<u16>, places: usize)
+    requires { places ≤ vec_capacity written.old }
+    ensures kept { take (length written.old.items) written.new.items ≡ written.old.items }
+    ensures reached { length written.new.items ≡ max places (length written.old.items) }
+    ensures room { vec_capacity written.new ≡ vec_capacity written.old }
+{
+    for _ in written.len()..places {
+        written.push_reserved(0);
+    }
 }
 
 /// Repeats what is listed for each value that the pairs let a variable have.
@@ -165,6 +180,7 @@ fn append_moved(cells: &mut CellList, count: usize, by: usize)
     requires below { All (λ c. by + c < max_clique_cells) (take count cells.old.items) }
     ensures { cells.new.items ≡ cells.old.items ++ map (λ c. by + c) (take count cells.old.items) }
 {
+    reach(&mut cells.cells, cells.count + count);
     write_again(&mut cells.cells, cells.count, count, by);
     cells.count += count;
 }

@@ -111,7 +111,7 @@ fn places(alloc: Global, whole: &Rc<Scope>, part: &Rc<Scope>) -> Result<Places, 
     requires { LiesIn part.now.value whole.now.value }
     ensures { IfOk result (λ it. it ≡ record { whole = whole.now.value; part = part.now.value }) }
 {
-    let (mut bases, mut offsets) = (CellList::new(), CellList::new());
+    let (mut bases, mut offsets) = (CellList::new(alloc)?, CellList::new(alloc)?);
     Places::of(alloc, whole, part, &mut bases, &mut offsets)
 }
 
@@ -238,12 +238,13 @@ fn check_joined<R: Semiring>(
     weather: &Weather,
     tables: &mut Tables<R>,
     number: u64,
+    chosen: &mut CellList,
 )
     requires { HaveRoom tables.old }
     ensures { HaveRoom tables.new }
 {
     let (rain, middle) = (&weather.rain, only(rt, MIDDLE));
-    let total = tables.total_times(OF_ALL, rain, OF_RAIN, &middle, &mut CellList::new());
+    let total = tables.total_times(OF_ALL, rain, OF_RAIN, &middle, chosen);
     check(rt, total, number, 0);
     tables.margin_times_into(OF_ALL, &weather.wind, rain, OF_RAIN, OF_WIND);
     check(rt, tables.get(OF_WIND, 1), number, 0);
@@ -255,15 +256,16 @@ fn check_times<R: Semiring>(
     weather: &Weather,
     tables: &mut Tables<R>,
     times: (u64, u64),
+    chosen: &mut CellList,
 )
     requires { HaveRoom tables.old }
     ensures { HaveRoom tables.new }
 {
     weigh_rain::<R>(weather, tables);
-    check_joined::<R>(rt, weather, tables, times.0);
+    check_joined::<R>(rt, weather, tables, times.0, chosen);
     tables.clear(OF_RAIN);
     check(rt, tables.get(OF_RAIN, 1), 1, 0);
-    check_joined::<R>(rt, weather, tables, times.1);
+    check_joined::<R>(rt, weather, tables, times.1, chosen);
 }
 
 /// Makes the message one with the rows of the rain, whatever it was.
@@ -277,14 +279,18 @@ fn weigh_rain<R: Semiring>(weather: &Weather, tables: &mut Tables<R>)
 }
 
 /// The total of the middle wind, before and after all other winds are made absent.
-fn check_totals<R: Semiring>(rt: &impl Abort, tables: &mut Tables<R>, number: u64)
+fn check_totals<R: Semiring>(
+    rt: &impl Abort,
+    tables: &mut Tables<R>,
+    number: u64,
+    chosen: &mut CellList,
+)
     requires { HaveRoom tables.old }
     ensures { HaveRoom tables.new }
 {
-    let mut chosen = CellList::new();
-    let before = tables.total(OF_ALL, &only(rt, MIDDLE), &mut chosen);
+    let before = tables.total(OF_ALL, &only(rt, MIDDLE), chosen);
     tables.restrict(OF_ALL, MIDDLE);
-    let after = tables.total(OF_ALL, &Event::empty(), &mut chosen);
+    let after = tables.total(OF_ALL, &Event::empty(), chosen);
     check(rt, before, number, 0);
     check(rt, after, number, 0);
 }
@@ -302,12 +308,13 @@ fn check_table<R: Semiring>(
     weather: &Weather,
     tables: &mut Tables<R>,
     known: &Known,
+    chosen: &mut CellList,
 )
     requires { HaveRoom tables.old }
 {
     check_margin::<R>(rt, weather, tables, &known.winds);
-    check_times::<R>(rt, weather, tables, known.times);
-    check_totals::<R>(rt, tables, known.winds[1]);
+    check_times::<R>(rt, weather, tables, known.times, chosen);
+    check_totals::<R>(rt, tables, known.winds[1], chosen);
     check_cells::<R>(rt, tables, &known.cells);
 }
 
@@ -327,13 +334,14 @@ fn check_again<R: Semiring>(
     weather: &Weather,
     tables: &mut Tables<R>,
     winds: &[u64; 3],
+    chosen: &mut CellList,
 )
     requires { HaveRoom tables.old }
     ensures { HaveRoom tables.new }
 {
-    let (middle, mut chosen) = (only(rt, MIDDLE), CellList::new());
+    let middle = only(rt, MIDDLE);
     tables.restrict(OF_ALL, RAIN);
-    tables.margin_again_into(OF_ALL, &weather.wind, &middle, &mut chosen, OF_WIND);
+    tables.margin_again_into(OF_ALL, &weather.wind, &middle, chosen, OF_WIND);
     check_winds::<R>(rt, tables, winds);
 }
 
@@ -383,7 +391,7 @@ fn traded<R: Semiring>(rt: &impl Abort, alloc: Global, weather: &Weather) -> Res
     ensures { IfOk result AreWeather }
 {
     let mut tables = Tables::<R>::ones(alloc, &weather.scopes)?;
-    let mut chosen = CellList::new();
+    let mut chosen = CellList::new(alloc)?;
     tables.times_ratio(OF_ALL, &each_rain(rt), &mut chosen);
     tables.times_ratio(OF_ALL, &each_heat(only(rt, RAIN)), &mut chosen);
     assert_eq!(rt; tables.shift(OF_ALL), 80);
@@ -397,7 +405,7 @@ fn check_product<R: Semiring>(
     known: &Known,
 ) -> Result<(), Fail> {
     let mut tables = product::<R>(alloc, weather)?;
-    check_table::<R>(rt, weather, &mut tables, known);
+    check_table::<R>(rt, weather, &mut tables, known, &mut CellList::new(alloc)?);
     Ok(())
 }
 
@@ -408,7 +416,7 @@ fn check_ones<R: Semiring>(
     known: &Known,
 ) -> Result<(), Fail> {
     let mut tables = ones_times_ones::<R>(alloc, weather)?;
-    check_table::<R>(rt, weather, &mut tables, known);
+    check_table::<R>(rt, weather, &mut tables, known, &mut CellList::new(alloc)?);
     Ok(())
 }
 
@@ -421,7 +429,7 @@ fn check_put_and_others<R: Semiring>(
     let mut tables = product::<R>(alloc, weather)?;
     check_put::<R>(rt, weather, &mut tables);
     check_margin::<R>(rt, weather, &mut tables, &[winds[0]; 3]);
-    check_again::<R>(rt, weather, &mut tables, winds);
+    check_again::<R>(rt, weather, &mut tables, winds, &mut CellList::new(alloc)?);
     check_others::<R>(rt, &mut tables, winds);
     Ok(())
 }
@@ -497,7 +505,11 @@ fn heated(rt: &impl Abort, alloc: Global, weather: &Weather) -> Result<Tables<Su
 {
     let mut tables = Tables::<SumProd>::ones(alloc, &weather.scopes)?;
     assert!(rt; tables.is_untouched(OF_ALL, &Event::empty()));
-    tables.times_ratio(OF_ALL, &each_heat(only(rt, RAIN)), &mut CellList::new());
+    tables.times_ratio(
+        OF_ALL,
+        &each_heat(only(rt, RAIN)),
+        &mut CellList::new(alloc)?,
+    );
     assert!(rt; tables.is_untouched(OF_ALL, &only(rt, DRY)));
     assert!(rt; !tables.is_untouched(OF_ALL, &only(rt, RAIN)));
     assert!(rt; !tables.is_untouched(OF_ALL, &only(rt, WARM)));
@@ -508,7 +520,7 @@ fn check_untouched(rt: &impl Abort, alloc: Global, weather: &Weather) -> Result<
     let mut tables = heated(rt, alloc, weather)?;
     // The pair that both conditions have is kept alone.
     let both = only(rt, RAIN).with(HIGH).expect(rt, "two pairs");
-    tables.times_ratio(OF_ALL, &each_heat(both), &mut CellList::new());
+    tables.times_ratio(OF_ALL, &each_heat(both), &mut CellList::new(alloc)?);
     assert!(rt; tables.is_untouched(OF_ALL, &only(rt, DRY)));
     assert!(rt; !tables.is_untouched(OF_ALL, &only(rt, MIDDLE)));
     // Where it is known to be dry, no cell that is left was touched.
@@ -519,7 +531,7 @@ fn check_untouched(rt: &impl Abort, alloc: Global, weather: &Weather) -> Result<
 
 fn check_two_conditions(rt: &impl Abort, alloc: Global, weather: &Weather) -> Result<(), Fail> {
     let mut tables = heated(rt, alloc, weather)?;
-    tables.times_ratio(OF_ALL, &each_rain(rt), &mut CellList::new());
+    tables.times_ratio(OF_ALL, &each_rain(rt), &mut CellList::new(alloc)?);
     assert!(rt; !tables.is_untouched(OF_ALL, &only(rt, DRY)));
     tables.restrict(OF_ALL, RAIN);
     assert!(rt; !tables.is_untouched(OF_ALL, &only(rt, DRY)));
