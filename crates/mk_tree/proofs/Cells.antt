@@ -11,6 +11,7 @@ use Rattle.std.proofs.lemmas.List.Elements.{All-nil, All-cons, All-head, All-tai
 use Rattle.mk_net.specs.declared.sets.VarSet.{VarSet}
 use Rattle.mk_net.specs.Sets.{is_member}
 use Rattle.mk_net.specs.Network.{Variable, IsNetwork, sizes, choices}
+use Rattle.mk_states.specs.States.{numbers_below}
 use Rattle.mk_net.proofs.Networks.{two_values}
 use Rattle.mk_tree.specs.Tests.{members, cells_of, first_too_large}
 
@@ -82,11 +83,21 @@ members_from_first : (network : List Variable) (left rest : VarSet) (x : ℕ) �
 members_from_first network left rest x within first =
     first_kept (is_member left) (is_member rest) 0 (length network) x (omega arith) (omega (arith, within)) first.member first.least first.others
 
+-- without its first variable a set has fewer below a number
+pub fewer_kept : (n : ℕ) (left rest : VarSet) (x : ℕ) → x < n → IsFirstOf left x rest
+    → length (filter (is_member rest) (numbers_below n))
+    < length (filter (is_member left) (numbers_below n))
+fewer_kept n left rest x within first =
+    let kept : filter (is_member left) (numbers_below n)
+    ≡ x ∷ filter (is_member rest) (numbers_below n) =
+    first_kept (is_member left) (is_member rest) 0 n x (omega arith) (omega (arith, within))
+    first.member first.least first.others in
+    let longer = ap length kept in
+    omega (arith, longer)
+
 pub fewer_members : (network : List Variable) (left rest : VarSet) (x : ℕ) → x < length network → IsFirstOf left x rest
     → length (members network rest) < length (members network left)
-fewer_members network left rest x within first =
-    let longer : length (members network left) ≡ length (x ∷ members network rest) = ap length (members_from_first network left rest x within first) in
-    omega (arith, longer)
+fewer_members network = fewer_kept (length network)
 
 cells_from_first : (network : List Variable) (left rest : VarSet) (x : ℕ) → x < length network → IsFirstOf left x rest
     → cells_of network left ≡ slice_index (sizes network) x * cells_of network rest

@@ -9,3 +9,5 @@ pub mod Faultless
 pub mod Held
 pub mod Leaf
 pub mod Grown
+pub mod Begun
+pub mod Searched

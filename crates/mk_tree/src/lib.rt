@@ -4,6 +4,7 @@
 mod check;
 mod fault;
 mod laws;
+mod starts;
 mod tree;
 
 pub use check::clique_cells;

@@ -1,8 +1,8 @@
 //! A checked tree.
 
 ghost use Rattle.std.specs.Prelude.{◌≡◌, ◌≢◌, ℕ, ◌<◌, ◌≤◌, [], ◌∷◌, length, None, Some, IfOk};
-ghost use Rattle.std.specs.Prelude.{IfErr, IfSome, position, sum_by};
-ghost use Rattle.mk_tree.specs.Given.{AreLinked, AreOfNetwork, clique_at, link_of, home, holds_event};
+ghost use Rattle.std.specs.Prelude.{IfErr, IfSome, sum_by};
+ghost use Rattle.mk_tree.specs.Given.{AreLinked, AreOfNetwork, clique_at, link_of, home};
 ghost use Rattle.mk_tree.specs.Tests.{cells_of, tree_fault};
 ghost use Rattle.mk_tree.specs.Checked.{IsTreeOf};
 ghost use Rattle.mk_tree.specs.Grown.{with_clique, IsBehind};
@@ -10,6 +10,7 @@ ghost use Rattle.mk_net.specs.Bounds.{max_cells};
 
 use crate::check::{find_fault, total_cells};
 use crate::fault::TreeFault;
+use crate::starts::{find_starts, first_holder};
 use mk_net::{Event, Network, NoMemory, Pair, VarSet};
 use std::alloc::Global;
 use std::marker::Model;
@@ -20,16 +21,20 @@ use std::marker::Model;
 pub struct Tree {
     cliques: Vec<VarSet>,
     links: Vec<u32>,
+    // For each variable the place, counted from 0, of the first clique that holds it.
+    starts: Vec<u32>,
 }
 
 impl Model for Tree {
     ghost use Rattle.mk_tree.specs.Given.{GivenTree, AreLinked};
+    ghost use Rattle.mk_tree.specs.inner.Starts.{AreStarts};
 
     ghost Value = { GivenTree };
 
     ghost view = { λ t. record { cliques = t.cliques.items; links = t.links.items } };
 
-    ghost invariant = { λ t. AreLinked (record { cliques = t.cliques.items; links = t.links.items }) };
+    ghost invariant = { λ t. AreLinked (record { cliques = t.cliques.items; links = t.links.items })
+        × AreStarts t.cliques.items t.starts.items };
 }
 
 impl Tree {
@@ -54,6 +59,7 @@ impl Tree {
         Ok(Tree {
             cliques: cliques.to_vec(alloc)?,
             links: links.to_vec(alloc)?,
+            starts: find_starts(alloc, cliques)?,
         })
     }
 
@@ -94,9 +100,15 @@ impl Tree {
     {
         let mut cliques = Vec::new(alloc);
         let mut links = Vec::new(alloc);
+        let mut starts = Vec::new(alloc);
         cliques.extend_from_slice(&self.cliques)?;
         links.extend_from_slice(&self.links)?;
-        Ok(Tree { cliques, links })
+        starts.extend_from_slice(&self.starts)?;
+        Ok(Tree {
+            cliques,
+            links,
+            starts,
+        })
     }
 
     /// How many cells all cliques have together, in a network of which this is a tree.
@@ -128,10 +140,16 @@ impl Tree {
         let Tree {
             mut cliques,
             mut links,
+            starts: _,
         } = self.copy(alloc)?;
         cliques.push(*clique)?;
         links.push(link)?;
-        Ok(Tree { cliques, links })
+        let starts = find_starts(alloc, &cliques)?;
+        Ok(Tree {
+            cliques,
+            links,
+            starts,
+        })
     }
 
     /// The first clique that holds each variable of the event. None exactly where no clique does.
@@ -139,7 +157,7 @@ impl Tree {
         ensures home { result ≡ home self.now event.now }
         ensures within { IfSome result (λ k. k ≤ length self.now.cliques) }
     {
-        let place = first_holder(&self.cliques, event.pairs())?;
+        let place = first_holder(&self.cliques, &self.starts, event.pairs())?;
         Some(place as u32 + 1)
     }
 
@@ -148,21 +166,7 @@ impl Tree {
         ensures { result ≡ home self.now (pair ∷ []) }
     {
         let pairs = [pair];
-        let place = first_holder(&self.cliques, &pairs)?;
+        let place = first_holder(&self.cliques, &self.starts, &pairs)?;
         Some(place as u32 + 1)
     }
-}
-
-/// The place, counted from 0, of the first clique that holds each variable of the pairs.
-fn first_holder(cliques: &[VarSet], pairs: &[Pair]) -> Option<usize>
-    ensures first { result ≡ position (holds_event pairs.now) cliques.now }
-    ensures within { IfSome result (λ place. place < length cliques.now) }
-{
-    cliques.iter().position(|clique| holds_event(clique, pairs))
-}
-
-fn holds_event(clique: &VarSet, pairs: &[Pair]) -> bool
-    ensures { result ≡ holds_event pairs.now clique.now }
-{
-    pairs.iter().all(|pair| clique.has(pair.variable))
 }

@@ -4,7 +4,7 @@ use Rattle.mk_tree.proofs.Faultless.{tree_is_faultless}
 use Rattle.mk_tree.proofs.Grown.{grown_is_tree}
 use Rattle.mk_tree.proofs.tree.Tree.with_clique.Goals as goal
 
-whole : (c : goal.In_ok-push-2) →
+whole : (c : goal.In_ok-starts) →
     IsTreeOf c.args.net.now (record {
       cliques = c.push.new.self.items;
       links =
