@@ -1,5 +1,5 @@
 -- What one user's assets stand for, and what is asked of them.
-use Rattle.std.specs.Prelude.{◌≡◌, ℕ, ◌+◌, ◌*◌, ◌<◌, ◌≤◌, ℤ, List, map, length, Option, IsNone}
+use Rattle.std.specs.Prelude.{◌≡◌, ℕ, ◌+◌, ◌*◌, ◌<◌, ◌≤◌, ℤ, List, map, length, take, Option, IsNone}
 use Rattle.std.specs.Prelude.{IfSome, ◌↔◌}
 use Rattle.std.specs.List.{count_by}
 use Rattle.mk_net.specs.declared.words.Pair.{Pair}
@@ -7,7 +7,7 @@ use Rattle.mk_net.specs.Asked.{Asked, TradeRatio}
 use Rattle.mk_net.specs.Bounds.{max_transfers, max_transfer_bits, number_limit}
 use Rattle.mk_net.specs.Network.{Variable, IsNetwork}
 use Rattle.mk_net.specs.Zeros.{with_zeros}
-use Rattle.mk_states.specs.OfNetwork.{IsPairOf, IsRatioOf}
+use Rattle.mk_states.specs.OfNetwork.{IsRatioOf}
 use Rattle.mk_enclose.specs.declared.factor.Factor.{Factor}
 use Rattle.mk_enclose.specs.Enclosure.{Encloses, IsExact}
 use Rattle.mk_enclose.specs.Factor.{paid_in, taken_out}
@@ -15,7 +15,7 @@ use Rattle.mk_tree.specs.Given.{GivenTree}
 use Rattle.mk_tree.specs.Checked.{IsTreeOf}
 use Rattle.mk_semiring.specs.declared.held.Held.TheVariants.{Present}
 use Rattle.mk_semiring.specs.Held.{HasHeldGrade}
-use Rattle.mk_engine.specs.Meaning.{Meaning, SupportOf, RatioOf, is_ratio, with_factor, with_known, whole_sum, max_factors, ArePairsOf}
+use Rattle.mk_engine.specs.Meaning.{Meaning, SupportOf, RatioOf, is_ratio, with_factor, whole_sum, max_factors, ArePairsOf}
 use Rattle.mk_engine.specs.Cases.{CanAskOthers}
 use Rattle.mk_assets.specs.declared.assets.Assets.{Assets}
 
@@ -47,9 +47,9 @@ with_deposit bits h = record { meaning = h.meaning; deposited = h.deposited + bi
 abbrev pub with_withdrawal : ℕ → Holding → Holding
 with_withdrawal bits h = record { meaning = h.meaning; deposited = h.deposited; withdrawn = h.withdrawn + bits }
 
--- with one known pair more
-abbrev pub with_known_pair : Pair → Holding → Holding
-with_known_pair pair h = record { meaning = with_known pair h.meaning; deposited = h.deposited; withdrawn = h.withdrawn }
+-- with so many of the pairs that are known there, the first
+abbrev pub with_first_known : ℕ → Meaning → Meaning
+with_first_known n m = record { network = m.network; tree = m.tree; factors = m.factors; known = take n m.known }
 
 -- as many bits as all transfers of a market can come to
 abbrev pub max_bits : ℕ
@@ -66,50 +66,54 @@ pub record IsPlanned {P : Type 0} (plan_for : P → List Variable → GivenTree
   pub tree : GivenTree
   pub planned : plan_for plan network tree
 
--- the plan stands for the network, whose pairs these are, and this tree of it
-pub record CanStart {P : Type 0} (plan_for : P → List Variable → GivenTree
-    → Type 0) (plan : P) (network : List Variable) (tree : GivenTree)
-    (known : List Pair) : Type 0 where
-  pub legal : IsNetwork network
-  pub tree_of_it : IsTreeOf network tree
-  pub planned : plan_for plan network tree
-  pub in_range : ArePairsOf network known
-
 module _ {E P : Type 0} (stands_for : E → Meaning → Type 0) where
-  -- the assets stand for a holding
-  pub record Owns (assets : Assets E P) (h : Holding) : Type 0 where
-    pub stands : stands_for assets.engine h.meaning
+  -- the assets are those of a holding, and may not have learnt the last pairs that are known there
+  pub record Holds (assets : Assets E P) (h : Holding) : Type 0 where
+    pub stands : stands_for assets.engine (with_first_known assets.learnt h.meaning)
+    pub some_learnt : assets.learnt ≤ length h.meaning.known
     pub counted : assets.trades ≡ trades_in h
     pub net : IsNet assets.net h.deposited h.withdrawn
     pub few_in : h.deposited ≤ max_bits
     pub few_out : h.withdrawn ≤ max_bits
 
-  -- they stand for a holding of whose network this is a ratio, with fewer factors than an engine may hold
+  -- the assets stand for a holding: they have learnt all pairs that are known there
+  pub record Owns (assets : Assets E P) (h : Holding) : Type 0 where
+    pub stands : stands_for assets.engine h.meaning
+    pub all_learnt : assets.learnt ≡ length h.meaning.known
+    pub counted : assets.trades ≡ trades_in h
+    pub net : IsNet assets.net h.deposited h.withdrawn
+    pub few_in : h.deposited ≤ max_bits
+    pub few_out : h.withdrawn ≤ max_bits
+
+  -- they are those of a holding of whose network this is a ratio, with fewer factors than an engine may hold
   pub record CanTrade (assets : Assets E P) (ratio : TradeRatio) : Type 0 where
     pub holding : Holding
-    pub owns : Owns assets holding
+    pub holds : Holds assets holding
     pub in_range : IsRatioOf holding.meaning.network ratio
     pub room : length holding.meaning.factors < max_factors
 
   -- for one that so many bits may be deposited to
   pub record CanDeposit (assets : Assets E P) (bits : ℕ) : Type 0 where
     pub holding : Holding
-    pub owns : Owns assets holding
+    pub holds : Holds assets holding
     pub room : holding.deposited + bits ≤ max_bits
 
   -- for one that so many bits may be withdrawn from
   pub record CanWithdraw (assets : Assets E P) (bits : ℕ) : Type 0 where
     pub holding : Holding
-    pub owns : Owns assets holding
+    pub holds : Holds assets holding
     pub room : holding.withdrawn + bits ≤ max_bits
 
-  -- for one of whose network this is a pair
-  pub record CanLearn (assets : Assets E P) (pair : Pair) : Type 0 where
+  -- for one over this tree of its network, where these pairs of the network are known
+  pub record CanLearn (assets : Assets E P) (tree : GivenTree) (known : List Pair) : Type 0 where
     pub holding : Holding
-    pub owns : Owns assets holding
-    pub in_range : IsPairOf holding.meaning.network pair
+    pub holds : Holds assets holding
+    pub tree_of_it : IsTreeOf holding.meaning.network tree
+    pub same_tree : holding.meaning.tree ≡ tree
+    pub same_known : holding.meaning.known ≡ known
+    pub in_range : ArePairsOf holding.meaning.network known
 
-  -- for one of whose network these are pairs
+  -- they stand for one of whose network these are pairs
   pub record CanFindLeast (assets : Assets E P) (event : List Pair) : Type 0 where
     pub holding : Holding
     pub owns : Owns assets holding

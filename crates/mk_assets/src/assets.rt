@@ -11,11 +11,11 @@ ghost use Rattle.mk_semiring.specs.Held.{HasHeldGrade};
 ghost use Rattle.mk_tree.specs.Given.{GivenTree, home};
 ghost use Rattle.mk_engine.specs.Meaning.{exact_belief, max_grade};
 ghost use Rattle.mk_engine.specs.Cases.{exact_others};
-ghost use Rattle.mk_assets.specs.Holdings.{Holding, Owns, IsPlanned, CanStart, CanTrade};
+ghost use Rattle.mk_assets.specs.Holdings.{Holding, Holds, Owns, IsPlanned, CanTrade};
 ghost use Rattle.mk_assets.specs.Holdings.{CanDeposit, CanWithdraw, CanLearn, CanFindLeast};
 ghost use Rattle.mk_assets.specs.Holdings.{CanFindLeastOfOthers, IsTakenAt, IsLeastFactor};
 ghost use Rattle.mk_assets.specs.Holdings.{max_bits, trades_in, opening_holding, with_trade};
-ghost use Rattle.mk_assets.specs.Holdings.{with_deposit, with_withdrawal, with_known_pair};
+ghost use Rattle.mk_assets.specs.Holdings.{with_deposit, with_withdrawal};
 ghost use Rattle.mk_assets.specs.inner.Found.{IsFound};
 
 use mk_enclose::Factor;
@@ -25,39 +25,33 @@ use mk_semiring::{Held, MinProd, Semiring};
 use mk_tree::Tree;
 use std::alloc::Global;
 
-/// One user's engine with the number of trades and the bits that were paid in, less those taken out.
+/// One user's engine with the number of trades, the bits that were paid in less those taken out,
+/// and how many of the pairs that are known the engine has learnt.
 ///
-/// Assets stand for holdings. Each clause holds for every holding that they stand for before the call.
+/// Assets stand for holdings. Each clause holds for every holding that they stand for before the
+/// call. A pair that comes to be known changes a holding and not the assets: they are still those of
+/// the holding, and stand for it once they have learnt the pair.
 #[derive(Drop)]
 pub struct Assets<E: Engine<MinProd>> {
     engine: E,
     trades: u32,
     net: i64,
+    learnt: usize,
 }
 
 impl<E: Engine<MinProd>> Assets<E> {
-    /// The assets of a user who has not traded, with what is known already, over the tree of the
-    /// network that the plan was made for. They are told in which states each variable of the
-    /// network that has a share of nothing cannot come.
-    pub fn start(
-        alloc: Global,
-        plan: &E::Plan,
-        net: &Network,
-        tree: &Tree,
-        known: &[Pair],
-    ) -> Result<Assets<E>, NoMemory>
-        requires { CanStart E.plan_for plan.now net.now tree.now known.now }
-        ensures { IfOk result (λ assets. Owns E.stands_for assets
-            (opening_holding net.now tree.now known.now)) }
+    /// The assets of a user who has not traded, over the network that the plan was made for. They
+    /// are told in which states each variable that has a share of nothing cannot come, and have
+    /// learnt none of the pairs that are known.
+    pub fn start(alloc: Global, plan: &E::Plan, net: &Network) -> Result<Assets<E>, NoMemory>
+        requires { IsPlanned E.plan_for plan.now net.now }
+        ensures { IfOk result (λ assets. (tree : GivenTree) (known : List Pair) → E.plan_for plan.now net.now tree → Holds E.stands_for assets (opening_holding net.now tree known)) }
     {
-        let mut engine = Self::supported(alloc, plan, net)?;
-        for pair in known {
-            engine.know(home_of(tree, *pair), *pair);
-        }
         Ok(Assets {
-            engine,
+            engine: Self::supported(alloc, plan, net)?,
             trades: 0,
             net: 0,
+            learnt: 0,
         })
     }
 
@@ -77,7 +71,8 @@ impl<E: Engine<MinProd>> Assets<E> {
     pub fn trade(&mut self, home: u32, ratio: &Ratio)
         requires home { IsTakenAt E.places_at self.old home (ratio_pairs (trade_ratio ratio.now)) }
         requires range { CanTrade E.stands_for self.old (trade_ratio ratio.now) }
-        ensures { (h : Holding) → Owns E.stands_for self.old h → Owns E.stands_for self.new (with_trade (trade_ratio ratio.now) h) }
+        ensures held { (h : Holding) → Holds E.stands_for self.old h → Holds E.stands_for self.new (with_trade (trade_ratio ratio.now) h) }
+        ensures owned { (h : Holding) → Owns E.stands_for self.old h → Owns E.stands_for self.new (with_trade (trade_ratio ratio.now) h) }
     {
         self.engine.multiply(home, ratio);
         self.trades += 1;
@@ -85,7 +80,7 @@ impl<E: Engine<MinProd>> Assets<E> {
 
     /// How many trades there were.
     pub fn trades(&self) -> u32
-        ensures { (h : Holding) → Owns E.stands_for self.now h → result ≡ trades_in h }
+        ensures { (h : Holding) → Holds E.stands_for self.now h → result ≡ trades_in h }
     {
         self.trades
     }
@@ -93,7 +88,8 @@ impl<E: Engine<MinProd>> Assets<E> {
     /// Adds bits that were paid in.
     pub fn deposit(&mut self, bits: u32)
         requires { CanDeposit E.stands_for self.old bits }
-        ensures { (h : Holding) → Owns E.stands_for self.old h → h.deposited + bits ≤ max_bits → Owns E.stands_for self.new (with_deposit bits h) }
+        ensures held { (h : Holding) → Holds E.stands_for self.old h → h.deposited + bits ≤ max_bits → Holds E.stands_for self.new (with_deposit bits h) }
+        ensures owned { (h : Holding) → Owns E.stands_for self.old h → h.deposited + bits ≤ max_bits → Owns E.stands_for self.new (with_deposit bits h) }
     {
         self.net += bits as i64;
     }
@@ -101,18 +97,22 @@ impl<E: Engine<MinProd>> Assets<E> {
     /// Adds bits that were taken out.
     pub fn withdraw(&mut self, bits: u32)
         requires { CanWithdraw E.stands_for self.old bits }
-        ensures { (h : Holding) → Owns E.stands_for self.old h → h.withdrawn + bits ≤ max_bits → Owns E.stands_for self.new (with_withdrawal bits h) }
+        ensures held { (h : Holding) → Holds E.stands_for self.old h → h.withdrawn + bits ≤ max_bits → Holds E.stands_for self.new (with_withdrawal bits h) }
+        ensures owned { (h : Holding) → Owns E.stands_for self.old h → h.withdrawn + bits ≤ max_bits → Owns E.stands_for self.new (with_withdrawal bits h) }
     {
         self.net -= bits as i64;
     }
 
-    /// Adds a known pair, whose home this is.
-    pub fn know(&mut self, home: u32, pair: Pair)
-        requires home { IsTakenAt E.places_at self.old home (pair ∷ []) }
-        requires range { CanLearn E.stands_for self.old pair }
-        ensures { (h : Holding) → Owns E.stands_for self.old h → Owns E.stands_for self.new (with_known_pair pair h) }
+    /// Learns the pairs that are known and that it has not learnt yet, over this tree of the
+    /// network. They are all that is known, in the order in which they came to be so.
+    pub fn learn(&mut self, tree: &Tree, known: &[Pair])
+        requires { CanLearn E.stands_for self.old tree.now known.now }
+        ensures { (h : Holding) → Holds E.stands_for self.old h → h.meaning.tree ≡ tree.now → h.meaning.known ≡ known.now → Owns E.stands_for self.new h }
     {
-        self.engine.know(home, pair);
+        for pair in &known[self.learnt..] {
+            self.engine.know(home_of(tree, *pair), *pair);
+        }
+        self.learnt = known.len();
     }
 
     /// The least factor over the states where the known pairs and an event hold, asked in a clique

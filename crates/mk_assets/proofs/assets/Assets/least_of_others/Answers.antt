@@ -4,5 +4,5 @@ pub returns-clause-least : goal.returns-clause-least
 returns-clause-least g c = λ h owns sized.
     let found = c.belief_of_others-found.ensures.belief h.meaning owns.stands sized in
     c.factor.ensures.least h _ _
-    (record { stands = c.belief_of_others-found.ensures.kept h.meaning owns.stands; counted = owns.counted; net = owns.net; few_in = owns.few_in; few_out = owns.few_out })
+    (record { stands = c.belief_of_others-found.ensures.kept h.meaning owns.stands; all_learnt = owns.all_learnt; counted = owns.counted; net = owns.net; few_in = owns.few_in; few_out = owns.few_out })
     (record { value = found.value; grade = found.grade; exact = found.exact })
