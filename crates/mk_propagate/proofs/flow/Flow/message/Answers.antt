@@ -198,6 +198,10 @@ gather_others-requires-clause-marked g c =
     (product_of start a) (read_there start.products (a - 1)) c.index_mut-2.result.now
     c.index_mut-2.ensures.value)
 
+pub overflow_sub-to : goal.overflow_sub-to
+overflow_sub-to g c =
+    (receiver_is g.R.Semiring.plus_of _ c.requires.placing c.requires.has c.args.from c.args.to c.requires.linked_too).first
+
 pub index_mut-mark-requires : goal.index_mut-mark-requires
 index_mut-mark-requires g c =
     let can = can g (goal.at.index_mut-mark-requires g c).After-sum_core in
