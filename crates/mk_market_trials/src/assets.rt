@@ -86,7 +86,7 @@ fn trade(rt: &impl Abort) -> Ratio
     Ratio::of_question(&heads(rt), 2, HIT, MISS)
 }
 
-/// The assets after one trade, a deposit of one bit and a withdrawal.
+/// The assets after one trade, a deposit of one bit and a withdrawal, with what is known learnt.
 fn traded(
     rt: &impl Abort,
     alloc: Global,
@@ -102,13 +102,12 @@ fn traded(
 {
     assert!(rt; coin.net.variables() == 1);
     let plan = JointEngine::<MinProd>::plan(alloc, &coin.net, &coin.tree)?;
-    let mut assets = Assets::<JointEngine<MinProd>>::start(
-        alloc, &plan, &coin.net, &coin.tree, known,
-    )?;
+    let mut assets = Assets::<JointEngine<MinProd>>::start(alloc, &plan, &coin.net)?;
     let ratio = trade(rt);
     assets.trade(home_of(rt, coin, &ratio.event()), &ratio);
     assets.deposit(1);
     assets.withdraw(withdrawn);
+    assets.learn(&coin.tree, known);
     Ok(assets)
 }
 
@@ -150,13 +149,14 @@ fn check_tails(
     assets: &mut Assets<JointEngine<MinProd>>,
     least: (u64, i64),
 )
-    requires { Owns ⟦<JointEngine<MinProd> as Engine<MinProd>>⟧.stands_for assets.old
+    requires tree { IsTreeOf coin.now.net coin.now.tree }
+    requires owns { Owns ⟦<JointEngine<MinProd> as Engine<MinProd>>⟧.stands_for assets.old
         (with_withdrawal 0 (with_deposit 1 (with_trade (record { variable = 0; condition = []; factors = HIT ∷ MISS ∷ [] }) (opening_holding coin.now.net coin.now.tree [])))) }
 {
     let asked = heads(rt);
     let home = home_of(rt, coin, &asked.event());
     let before = assets.least_of_others(home, &asked, 2);
-    assets.know(home, HEADS);
+    assets.learn(&coin.tree, &[HEADS]);
     let after = assets.least_of_others(home, &asked, 2);
     assert!(rt; assets.trades() == 1);
     check(rt, before, Some(least));

@@ -117,7 +117,7 @@ fn nothing_owned(alloc: Global, coin: &Coin) -> Result<Assets<JointEngine<MinPro
     requires { IsTreeOf coin.now.net coin.now.tree }
 {
     let plan = JointEngine::<MinProd>::plan(alloc, &coin.net, &coin.tree)?;
-    Ok(Assets::<JointEngine<MinProd>>::start(alloc, &plan, &coin.net, &coin.tree, &[])?)
+    Ok(Assets::<JointEngine<MinProd>>::start(alloc, &plan, &coin.net)?)
 }
 
 fn join<A: Engine<MinProd>>(

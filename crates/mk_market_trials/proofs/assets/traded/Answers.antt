@@ -1,6 +1,6 @@
-use Rattle.std.proofs.Common.{sym, arith, lit<, lit≤}
+use Rattle.std.proofs.Common.{refl, sym, arith, lit<, lit≤}
 use Rattle.mk_net.specs.Trades.{trade_ratio}
-use Rattle.mk_assets.specs.Holdings.{opening_holding, with_trade, with_deposit}
+use Rattle.mk_assets.specs.Holdings.{opening_holding, with_trade, with_deposit, with_withdrawal}
 use Rattle.mk_market_trials.proofs.assets.traded.Goals as goal
 
 pub trade-requires-clause-range : goal.trade-requires-clause-range
@@ -8,8 +8,13 @@ trade-requires-clause-range g c =
     let coin = c.args.coin.now in let one = coin.one in let sides = coin.sides in
     record {
       holding = opening_holding coin.net coin.tree c.args.known.now;
-      owns = c.in_ok-assets.ensures;
-      in_range = rw c.trade-ratio.ensures (record { variable = omega (arith, one); condition = tt; one_each = sym sides; positive = (lit≤ tt, (lit≤ tt, tt)) });
+      holds = c.in_ok-assets.ensures coin.tree c.args.known.now c.in_ok-plan.ensures;
+      in_range = rw c.trade-ratio.ensures (record {
+        variable = omega (arith, one);
+        condition = tt;
+        one_each = sym sides;
+        positive = (lit≤ tt, (lit≤ tt, tt));
+      });
       room = rw coin.plain (lit< tt);
     }
 
@@ -19,7 +24,8 @@ deposit-requires g c =
     let first = opening_holding coin.net coin.tree c.args.known.now in
     record {
       holding = with_trade (trade_ratio c.trade-ratio.result) first;
-      owns = c.trade.ensures first (c.in_ok-assets.ensures);
+      holds = c.trade.ensures.held first
+          (c.in_ok-assets.ensures coin.tree c.args.known.now c.in_ok-plan.ensures);
       room = lit≤ tt;
     }
 
@@ -27,11 +33,30 @@ pub withdraw-requires : goal.withdraw-requires
 withdraw-requires g c =
     let coin = c.args.coin.now in let few = c.requires.withdrawn in
     let first = opening_holding coin.net coin.tree c.args.known.now in
-    let owns = c.trade.ensures first (c.in_ok-assets.ensures) in
+    let holds = c.trade.ensures.held first
+    (c.in_ok-assets.ensures coin.tree c.args.known.now c.in_ok-plan.ensures) in
     record {
       holding = with_deposit 1 (with_trade (trade_ratio c.trade-ratio.result) first);
-      owns = c.deposit.ensures (with_trade (trade_ratio c.trade-ratio.result) first) owns (lit≤ tt);
+      holds = c.deposit.ensures.held (with_trade (trade_ratio c.trade-ratio.result) first) holds
+          (lit≤ tt);
       room = omega (arith, few);
+    }
+
+pub learn-requires : goal.learn-requires
+learn-requires g c =
+    let coin = c.args.coin.now in let few = c.requires.withdrawn in
+    let first = opening_holding coin.net coin.tree c.args.known.now in
+    let second = with_trade (trade_ratio c.trade-ratio.result) first in
+    let holds = c.trade.ensures.held first
+    (c.in_ok-assets.ensures coin.tree c.args.known.now c.in_ok-plan.ensures) in
+    record {
+      holding = with_withdrawal c.args.withdrawn (with_deposit 1 second);
+      holds = c.withdraw.ensures.held (with_deposit 1 second)
+          (c.deposit.ensures.held second holds (lit≤ tt)) (omega (arith, few));
+      tree_of_it = c.requires.tree;
+      same_tree = refl;
+      same_known = refl;
+      in_range = c.requires.known;
     }
 
 pub returns : goal.returns
@@ -39,5 +64,9 @@ returns g c =
     let coin = c.args.coin.now in let few = c.requires.withdrawn in
     let first = opening_holding coin.net coin.tree c.args.known.now in
     let second = with_trade (trade_ratio c.trade-ratio.result) first in
-    let owns = c.trade.ensures first (c.in_ok-assets.ensures) in
-    rw c.trade-ratio.ensures at (c.withdraw.ensures (with_deposit 1 second) (c.deposit.ensures second owns (lit≤ tt)) (omega (arith, few)))
+    let holds = c.trade.ensures.held first
+    (c.in_ok-assets.ensures coin.tree c.args.known.now c.in_ok-plan.ensures) in
+    let third = c.withdraw.ensures.held (with_deposit 1 second)
+    (c.deposit.ensures.held second holds (lit≤ tt)) (omega (arith, few)) in
+    rw c.trade-ratio.ensures at (c.learn.ensures
+    (with_withdrawal c.args.withdrawn (with_deposit 1 second)) third refl refl)
