@@ -12,7 +12,7 @@ use Rattle.mk_engine.specs.Meaning.{Meaning, RatioOf, with_factor, with_known}
 use Rattle.mk_beliefs.specs.Meanings.{gains_of, grown_for}
 use Rattle.mk_beliefs.proofs.Grown.{gains_grow, opening_is_rows}
 use Rattle.mk_assets.specs.declared.assets.Assets.{Assets}
-use Rattle.mk_assets.specs.Holdings.{Holding, Owns, max_bits, opening_holding}
+use Rattle.mk_assets.specs.Holdings.{Holding, Holds, max_bits, opening_holding}
 use Rattle.mk_answers.specs.Open.{holding_of}
 use Rattle.mk_record.specs.declared.entry.Entry.{Entry}
 use Rattle.mk_record.specs.Entries.{change_of, changes}
@@ -98,18 +98,18 @@ module _ (network : List Variable) (tree : GivenTree) (u : ℕ) where
         (subst (λ (H : List history.Entry). withdrawn H u ≤ max_bits) around few_out)
 
     -- one more entry is taken
-    pub own_one : {E P : Type 0} (stands_for : E → Meaning → Type 0) (assets : Assets E P)
-        → Owns stands_for assets (grown_holding u (change_of (get_or entries i d))
+    pub held_one : {E P : Type 0} (stands_for : E → Meaning → Type 0) (assets : Assets E P)
+        → Holds stands_for assets (grown_holding u (change_of (get_or entries i d))
         (holding_of network tree (changes (take i entries)) u))
-        → Owns stands_for assets (holding_of network tree (changes (take (i + 1) entries)) u)
-    own_one stands_for assets h =
-        subst (Owns stands_for assets)
+        → Holds stands_for assets (holding_of network tree (changes (take (i + 1) entries)) u)
+    held_one stands_for assets h =
+        subst (Holds stands_for assets)
         (sym (holding_grows (changes (take i entries)) (change_of (get_or entries i d)))
         ∙ ap (λ (H : List history.Entry). holding_of network tree H u)
         (sym (changes_more entries d i there))) h
 
--- before any entry a user owns the support of each variable, and no bits
-pub own_none : (network : List Variable) (tree : GivenTree) (u : ℕ)
+-- before any entry a user holds the support of each variable, and no bits
+pub held_none : (network : List Variable) (tree : GivenTree) (u : ℕ)
     → opening_holding network tree [] ≡ holding_of network tree [] u
-own_none network tree u = ap (λ (m : Meaning). holding m 0 0)
+held_none network tree u = ap (λ (m : Meaning). holding m 0 0)
     (sym ((opening_is_rows network tree u).1))

@@ -5,10 +5,10 @@ use Rattle.mk_net.specs.Asked.{ratio_pairs}
 use Rattle.mk_states.specs.OfNetwork.{IsPairOf, IsRatioOf}
 use Rattle.mk_exact.specs.History.{Entry, Deposit, Withdraw, Trade, Resolve}
 use Rattle.mk_tree.specs.Given.{GivenTree, home}
-use Rattle.mk_engine.specs.Meaning.{Meaning, max_factors}
+use Rattle.mk_engine.specs.Meaning.{Meaning, with_known, max_factors}
 use Rattle.mk_assets.specs.declared.assets.Assets.{Assets}
-use Rattle.mk_assets.specs.Holdings.{Holding, Owns, max_bits, with_trade, with_deposit}
-use Rattle.mk_assets.specs.Holdings.{with_withdrawal, with_known_pair}
+use Rattle.mk_assets.specs.Holdings.{Holding, Holds, max_bits, with_trade, with_deposit}
+use Rattle.mk_assets.specs.Holdings.{with_withdrawal}
 
 -- one entry more can be taken: a trade has a home and room, and a resolution is of the network
 abbrev pub CanTakeBy : Meaning → Entry → Type 0
@@ -30,7 +30,11 @@ abbrev pub grown_holding : ℕ → Entry → Holding → Holding
 grown_holding u (Deposit user bits) h = if user == u then with_deposit bits h else h
 grown_holding u (Withdraw user bits) h = if user == u then with_withdrawal bits h else h
 grown_holding u (Trade user ratio) h = if user == u then with_trade ratio h else h
-grown_holding u (Resolve pair) h = with_known_pair pair h
+grown_holding u (Resolve pair) h = record {
+  meaning = with_known pair h.meaning;
+  deposited = h.deposited;
+  withdrawn = h.withdrawn;
+}
 grown_holding u _ h = h
 
 -- there is room for the bits that it moves
@@ -43,7 +47,7 @@ HasRoomFor u _ h = Unit {0}
 pub record CanTakeOwn {E P : Type 0} (stands_for : E → Meaning → Type 0) (assets : Assets E P)
     (tree : GivenTree) (u : ℕ) (e : Entry) : Type 0 where
   pub holding : Holding
-  pub owns : Owns stands_for assets holding
+  pub holds : Holds stands_for assets holding
   pub of_tree : holding.meaning.tree ≡ tree
   pub takes : CanTakeBy holding.meaning e
   pub room : HasRoomFor u e holding

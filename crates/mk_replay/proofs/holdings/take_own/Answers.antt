@@ -3,6 +3,7 @@ use Rattle.mk_net.specs.Asked.{ratio_pairs}
 use Rattle.mk_net.specs.Trades.{trade_ratio}
 use Rattle.mk_exact.specs.History as history
 use Rattle.mk_tree.specs.Given.{GivenTree, home}
+use Rattle.mk_assets.specs.Holdings.{with_first_known}
 use Rattle.mk_record.specs.declared.entry.Entry.{Entry}
 use Rattle.mk_record.specs.Entries.{change_of}
 use Rattle.mk_replay.specs.inner.Taking.{CanTakeBy}
@@ -22,8 +23,9 @@ home_of_trade-requires g c =
 pub trade-requires-clause-home : goal.trade-requires-clause-home
 trade-requires-clause-home g c =
     let a = c.requires in
-    g.met.A.Engine.home_is_place c.args.assets.now.engine a.holding.meaning c.home_of_trade.result
-    (ratio_pairs (trade_ratio c.in-Trade.ratio)) a.owns.stands
+    g.met.A.Engine.home_is_place c.args.assets.now.engine
+    (with_first_known c.args.assets.now.learnt a.holding.meaning) c.home_of_trade.result
+    (ratio_pairs (trade_ratio c.in-Trade.ratio)) a.holds.stands
     (ap (λ (t : GivenTree). home t (ratio_pairs (trade_ratio c.in-Trade.ratio))) a.of_tree
     ∙ c.home_of_trade.ensures)
 
@@ -31,4 +33,4 @@ pub trade-requires-clause-range : goal.trade-requires-clause-range
 trade-requires-clause-range g c =
     let a = c.requires in
     let t = same_change (CanTakeBy a.holding.meaning) _ _ c.in-Trade.is a.takes in
-    record { holding = a.holding; owns = a.owns; in_range = t.0; room = t.2 }
+    record { holding = a.holding; holds = a.holds; in_range = t.0; room = t.2 }
