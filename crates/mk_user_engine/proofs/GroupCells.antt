@@ -235,11 +235,11 @@ module _ (ts : List PlacedRatio) (ps : List Pair) (gs : List Group) (g : Group) 
       (k : HasGroupLeast ts ps g one)
     where
       -- both leave room for a product
-      pub first_cell : done + more ≤ 64 → IsCell product.least.digits product.least.exponent
+      pub first_cell : done + more ≤ 128 → IsCell product.least.digits product.least.exponent
       first_cell few = has_room (40 * done) product.least.digits product.least.exponent value
           (2 * done) (omega (arith, few)) (omega (arith, few)) h.stands
 
-      pub other_cell : done + more ≤ 64 → IsCell one.least.digits one.least.exponent
+      pub other_cell : done + more ≤ 128 → IsCell one.least.digits one.least.exponent
       other_cell few = has_room (40 * more) one.least.digits one.least.exponent other
           more (omega (arith, few)) (omega (arith, few)) k.stands
 

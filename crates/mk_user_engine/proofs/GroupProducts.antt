@@ -129,14 +129,14 @@ places_push picked ts ps i t l there are = record {
 -- ---- room for products
 
 pub product_cell : (names : List Named) (c : ℕ) (ts : List PlacedRatio) (d e : ℕ) (met : Bool)
-    → length ts ≤ 64 → HasProduct names ts c d e met → IsCell d e
+    → length ts ≤ 128 → HasProduct names ts c d e met → IsCell d e
 product_cell names c ts d e met few h =
     has_room (40 * length ts) d e (product_of ts (value_in names c)) (length ts)
     (omega (arith, few)) (omega (arith, few)) h.stands
 
 pub are_cells : (names : List Named) (ts : List PlacedRatio) (asked : List Bool)
     (digits exponents : List ℕ) (met : Bool)
-    → HaveProducts names ts asked digits exponents met (length asked) → length ts ≤ 64
+    → HaveProducts names ts asked digits exponents met (length asked) → length ts ≤ 128
     → AreCells digits exponents
 are_cells names ts asked digits exponents met h few =
     all_have_room (40 * length ts) digits exponents (number_in names ts asked)

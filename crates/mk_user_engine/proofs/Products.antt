@@ -123,7 +123,7 @@ module _ (names : List Named) (c : ℕ) where
         }
 
   -- a cell leaves room for a product
-  pub product_cell : (ts : List PlacedRatio) (d e : ℕ) (met : Bool) → length ts ≤ 64
+  pub product_cell : (ts : List PlacedRatio) (d e : ℕ) (met : Bool) → length ts ≤ 128
       → HasProduct names ts c d e met → IsCell d e
   product_cell ts d e met few h = has_room (40 * length ts) d e (product_of ts there) (length ts)
       (omega (arith, few)) (omega (arith, few)) h.stands
@@ -241,7 +241,7 @@ module _ (names : List Named) (ts : List PlacedRatio) (asked : List Bool) where
         (length ts)
     all_stand = record { each = λ c l. h.stand c (omega (arith, l, h.as_many_digits)) }
 
-    pub are_cells : length ts ≤ 64 → AreCells digits exponents
+    pub are_cells : length ts ≤ 128 → AreCells digits exponents
     are_cells few = all_have_room (40 * length ts) digits exponents (number_in names ts asked)
         (length ts) (omega (arith, few)) (omega (arith, few)) (omega (
           arith,

@@ -31,7 +31,7 @@ widened cells (n ∷ ns) = record {
 -- ---- several groups
 
 abbrev pub max_groups : ℕ
-max_groups = 64
+max_groups = 128
 
 -- no variable is named in two lists
 abbrev pub AreDisjoint : List (List Named) → Type 0

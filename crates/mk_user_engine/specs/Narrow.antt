@@ -20,7 +20,7 @@ use Rattle.mk_user_engine.specs.Names.{value_in}
 
 -- trades and known pairs of the narrow form
 abbrev pub max_trades : ℕ
-max_trades = 64
+max_trades = 128
 
 abbrev pub max_known : ℕ
 max_known = 256

@@ -14,7 +14,7 @@ use arrayvec::ArrayVec;
 use mk_cell::{Cell, least};
 
 /// The most trades.
-const MAX_TRADES: usize = 64;
+const MAX_TRADES: usize = 128;
 
 /// The least product in the cells that are asked for, and whether one of these meets the condition
 /// of a trade.

@@ -20,7 +20,7 @@ use std::alloc::Global;
 use std::mem::replace;
 
 /// The most groups.
-pub(crate) const MAX_GROUPS: usize = 64;
+pub(crate) const MAX_GROUPS: usize = 128;
 
 /// Groups, no two of which name one variable.
 #[derive(Drop)]

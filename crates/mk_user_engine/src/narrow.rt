@@ -32,7 +32,10 @@ use mk_semiring::{Held, MinProd, Semiring};
 use std::alloc::Global;
 
 /// The most trades of the narrow form.
-const MAX_TRADES: usize = 64;
+const MAX_TRADES: usize = 128;
+
+/// The most cells times trades for which a group is reckoned anew at each of its trades.
+const MAX_WORK: usize = 1024;
 
 /// The most known pairs.
 const MAX_KNOWN: usize = 256;
@@ -94,7 +97,7 @@ impl Narrow {
     }
 
     /// Takes a ratio, of whose condition a scope has each variable. Refused where a limit would be
-    /// passed.
+    /// passed, or where its group would be much work at each trade.
     pub(crate) fn multiply(&mut self, scope: &Scope, at: u32, ratio: &Ratio) -> bool
         requires { (m : Meaning) × CanTake self.old scope.now at (trade_ratio ratio.now) m }
         ensures taken { (m : Meaning) → CanTake self.old scope.now at (trade_ratio ratio.now) m
@@ -106,6 +109,9 @@ impl Narrow {
             return false;
         }
         if let Some(place) = self.groups.holding(ratio) {
+            if !self.is_light(place) {
+                return false;
+            }
             self.take(place, at, ratio);
             return true;
         }
@@ -118,6 +124,14 @@ impl Narrow {
             ratio: copy_of(ratio),
         });
         true
+    }
+
+    /// Whether a group is reckoned anew with one trade more in little work.
+    fn is_light(&self, place: usize) -> bool
+        requires { place < length self.now.groups.list.items }
+    {
+        let cells = self.groups.list[place].cells as usize;
+        cells.saturating_mul(self.trades.len() + 1) <= MAX_WORK
     }
 
     /// Takes a ratio whose variables one group names: of the others nothing changes.

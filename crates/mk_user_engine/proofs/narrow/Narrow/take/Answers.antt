@@ -21,7 +21,7 @@ use Rattle.mk_user_engine.proofs.narrow.Narrow.take.Goals as goal
 -- the lists with the ratio
 more : (n : Narrow) (at place : ℕ) (t : PlacedRatio) (m : Meaning) → CanHold n at (ratio_in t) m
     → t.home ≡ at → IsHeldIn n.groups.list.items place (ratio_in t)
-    → length n.trades.items < 64
+    → length n.trades.items < 128
     → AreGrouped n.groups (n.trades.items ++ t ∷ []) n.known.items n.homes.items (with_factor (RatioOf (ratio_in t)) m)
 more n at place t m can here held few =
     grouped_push n.groups n.trades.items n.known.items n.homes.items m t (ratio_in t) refl
