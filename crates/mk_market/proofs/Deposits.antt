@@ -11,7 +11,7 @@ use Rattle.mk_file.specs.declared.market_file.MarketFile.{MarketFile}
 use Rattle.mk_file.specs.MarketOf.{market_of}
 use Rattle.mk_engine.specs.Meaning.{Meaning}
 use Rattle.mk_assets.specs.declared.assets.Assets.{Assets}
-use Rattle.mk_assets.specs.Holdings.{Holding, Owns, CanDeposit, max_bits, with_deposit}
+use Rattle.mk_assets.specs.Holdings.{Holding, Holds, CanDeposit, max_bits, with_deposit}
 use Rattle.mk_cash.specs.Accounts.{account_of, LedgerOf}
 use Rattle.mk_record.specs.declared.last_quote.LastQuote.{LastQuote}
 use Rattle.mk_command.specs.declared.command.Command.TheVariants.{Deposit}
@@ -30,7 +30,7 @@ use Rattle.mk_record.specs.Refused.{IsUser, HasRoomForTransfer}
 use Rattle.mk_market.specs.inner.Keeping.{quoted, standing_of, IsKept, TakesAsMuch}
 use Rattle.mk_record.proofs.Appends.{not_there, not_found}
 use Rattle.mk_market.proofs.Growing.{kept_grown}
-use Rattle.mk_market.proofs.Owned.{names_same, quotes_same, owned_one, deposit_holding, deposit_others, few_moved}
+use Rattle.mk_market.proofs.Owned.{names_same, quotes_same, held_one, deposit_holding, deposit_others, few_moved}
 use Rattle.mk_market.proofs.Accounted.{paid_set, accounts_deposited}
 use Rattle.mk_market.proofs.Replies.{answer_allowed, unsettled}
 use Rattle.mk_replay.specs.Tills.{TillOf}
@@ -43,7 +43,7 @@ module _ {P A Plan : Type 0} (weights_stand : P → Meaning → Type 0) (gains_s
   bits_fit = let most = few_moved (length (users journal.history)) user journal.history kept.safe.bounded.transfers_fit in omega (arith, most.0, room.most, room.few, kept.max_transfers, file.transfers_most)
 
   pub can_deposit : (before : Assets A Plan) → slice_get (assets_of members) user ≡ Some before → CanDeposit gains_stand before bits
-  can_deposit before there = record { holding = holding_of file.net file.tree journal.history user; owns = kept.owns user before there; room = bits_fit }
+  can_deposit before there = record { holding = holding_of file.net file.tree journal.history user; holds = kept.held user before there; room = bits_fit }
 
   pub points_fit : (account_of ledger.accounts user).deposited + file.points_per_bit * bits < number_limit
   points_fit =
@@ -86,7 +86,7 @@ module _ {P A Plan : Type 0} (weights_stand : P → Meaning → Type 0) (gains_s
 
     -- the market is kept
     pub deposit_kept : TakesAsMuch journal new_journal
-        → ((h : Holding) → Owns gains_stand before h → h.deposited + bits ≤ max_bits → Owns gains_stand now (with_deposit bits h))
+        → ((h : Holding) → Holds gains_stand before h → h.deposited + bits ≤ max_bits → Holds gains_stand now (with_deposit bits h))
         → new_ledger ≡ record ledger { accounts = slice_set ledger.accounts user (let account = account_of ledger.accounts user in record account { deposited = account.deposited + file.points_per_bit * bits }) }
         → IsKept weights_stand gains_stand plan_for file prices rows plan (with_assets members user now) new_ledger new_journal payments till
     unfolding reply
@@ -100,8 +100,8 @@ module _ {P A Plan : Type 0} (weights_stand : P → Meaning → Type 0) (gains_s
           prices_grown = λ m stands. stands;
           rows_grown = λ m stands. stands;
           names = names_same members user before now there ∙ kept.named ∙ sym (not_found H (Deposits user bits) Rattle.mk_exact.specs.History.join_in refl);
-          owned = owned_one file.net file.tree H gains_stand members user before now (Deposits user bits) there kept.owns
-              (subst (Owns gains_stand now) (sym (deposit_holding file.net file.tree H user bits)) (deposits (holding_of file.net file.tree H user) (kept.owns user before there) bits_fit))
+          held = held_one file.net file.tree H gains_stand members user before now (Deposits user bits) there kept.held
+              (subst (Holds gains_stand now) (sym (deposit_holding file.net file.tree H user bits)) (deposits (holding_of file.net file.tree H user) (kept.held user before there) bits_fit))
               (deposit_others file.net file.tree H user bits);
           none_quoted = λ u quote at. subst (λ (qs : List (Option LastQuote)). slice_get qs u ≡ Some (Some quote)) same_quotes at;
           accounts = rw paid (accounts_deposited (market_of file) H (unsettled (market_of file) H (Deposit name bits) none) ledger.accounts user bits (file.points_per_bit * bits) is_user.within refl kept.accounts_kept);

@@ -207,7 +207,7 @@ module _ {P A Plan : Type 0} (weights_stand : P → Meaning → Type 0) (gains_s
     (payments : Option (List Payment)) (till : Option TillOf) (kept : IsKept weights_stand gains_stand plan_for file prices rows plan members ledger journal payments till)
     (name : List ℕ) (user : ℕ) (is_user : IsUser journal.history name user) (q : QuestionText) (asked : Asked)
     (is_question : IsQuestionFor (market_of file) file.tree journal.history q asked)
-    (quote : Quote) (is : IsQuoteOf file.net file.tree journal.history user asked quote) (are : AreQuoted gains_stand members new_members user (LastLimits quote)) where
+    (quote : Quote) (is : IsQuoteOf file.net file.tree journal.history user asked quote) (are : AreQuoted gains_stand file.net file.tree journal.history members new_members user (LastLimits quote)) where
   next_quoted : standing_of journal new_members
       ≡ record { history = journal.history ++ []; quotes = with_limits (market_of file) journal.history (map (option_map quoted) (quotes_of members)) name q (limits_of quote) }
   next_quoted =

@@ -45,6 +45,7 @@ use Rattle.mk_record.specs.Members.{assets_of, with_assets}
 use Rattle.mk_record.specs.Refused.{IsUser, IsSpreadQuestionFor}
 use Rattle.mk_market.specs.inner.Keeping.{IsKept, quoted, standing_of}
 use Rattle.mk_market.proofs.Growing.{kept_still}
+use Rattle.mk_market.proofs.Learnt.{holds_still}
 use Rattle.mk_market.proofs.Owned.{names_same, quotes_same, all_still}
 use Rattle.mk_market.proofs.Replies.{answer_allowed, refusal_allowed, stopped_by_states, unrefused}
 use Rattle.mk_market.proofs.Together.{none_together}
@@ -217,5 +218,6 @@ module _ {P A Plan : Type 0} (weights_stand : P → Meaning → Type 0) (gains_s
         prices_still = stands_still;
         names_still = names_same members user before now there;
         quotes_still = quotes_same members user before now there;
-        owned_still = all_still members user before now there gains_stand still;
+        held_still = all_still members user before now there gains_stand
+            (holds_still gains_stand before now still);
       })

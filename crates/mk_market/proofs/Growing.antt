@@ -16,7 +16,7 @@ use Rattle.mk_beliefs.specs.Meanings.{weights_of, rows_of, grown, grown_rows}
 use Rattle.mk_beliefs.proofs.Grown.{weights_grow}
 use Rattle.mk_beliefs.proofs.Initials.{rows_grow}
 use Rattle.mk_assets.specs.declared.assets.Assets.{Assets}
-use Rattle.mk_assets.specs.Holdings.{Holding, Owns}
+use Rattle.mk_assets.specs.Holdings.{Holding, Holds}
 use Rattle.mk_cash.specs.Accounts.{LedgerOf}
 use Rattle.mk_record.specs.declared.last_quote.LastQuote.{LastQuote}
 use Rattle.mk_command.specs.declared.command.Command.{Command}
@@ -36,7 +36,7 @@ use Rattle.mk_record.specs.declared.users.Member.{Member}
 use Rattle.mk_record.specs.Journals.{JournalOf}
 use Rattle.mk_record.specs.Members.{names_of, assets_of, quotes_of}
 use Rattle.mk_market.specs.Points.{AreAccounts}
-use Rattle.mk_market.specs.inner.Keeping.{standing_of, IsKeptQuote, IsKept, TakesAsMuch}
+use Rattle.mk_market.specs.inner.Keeping.{standing_of, AreHeld, IsKeptQuote, IsKept, TakesAsMuch}
 use Rattle.mk_replay.specs.Tills.{TillOf, room_for}
 
 -- the market of a file is one
@@ -99,8 +99,7 @@ module _ {P A Plan : Type 0} (weights_stand : P → Meaning → Type 0) (gains_s
     pub prices_grown : (m : Meaning) → weights_stand prices m → weights_stand new_prices (grown e m)
     pub rows_grown : (m : Meaning) → gains_stand rows m → gains_stand new_rows (grown_rows e m)
     pub names : names_of new_members ≡ users (journal.history ++ e ∷ [])
-    pub owned : (u : ℕ) (assets : Assets A Plan) → slice_get (assets_of new_members) u ≡ Some assets
-        → Owns gains_stand assets (holding_of file.net file.tree (journal.history ++ e ∷ []) u)
+    pub held : AreHeld gains_stand file.net file.tree (journal.history ++ e ∷ []) new_members
     pub none_quoted : (u : ℕ) (quote : LastQuote) → slice_get (quotes_of new_members) u ≡ Some (Some quote) → slice_get (quotes_of members) u ≡ Some (Some quote)
     pub accounts : AreAccounts (market_of file) (journal.history ++ e ∷ []) new_ledger.accounts
     pub ledger_room : new_ledger.room ≡ file.max_users
@@ -128,7 +127,7 @@ module _ {P A Plan : Type 0} (weights_stand : P → Meaning → Type 0) (gains_s
         rows_stand = subst (λ (H : List Entry). gains_stand new_rows (rows_of file.net file.tree H)) back
             (subst (gains_stand new_rows) (sym (rows_grow file.net file.tree journal.history e)) (are.rows_grown (rows_of file.net file.tree journal.history) kept.rows_stand));
         named = are.names ∙ ap users back;
-        owns = λ u assets at. subst (λ (H : List Entry). Owns gains_stand assets (holding_of file.net file.tree H u)) back (are.owned u assets at);
+        held = λ u assets at. subst (λ (H : List Entry). Holds gains_stand assets (holding_of file.net file.tree H u)) back (are.held u assets at);
         quotes_kept = λ u quote at. subst (λ (H : List Entry). IsKeptQuote file.net file.tree H u quote) back
             (quote_later file.net file.net file.tree file.tree journal.history e u quote (kept.quotes_kept u quote (are.none_quoted u quote at)));
         accounts_kept = subst (λ (H : List Entry). AreAccounts (market_of file) H new_ledger.accounts) back are.accounts;
@@ -142,13 +141,13 @@ module _ {P A Plan : Type 0} (weights_stand : P → Meaning → Type 0) (gains_s
         till_room = λ unsettled. are.till_room (subst (λ (H : List Entry). is_settled H ≡ false) are.history unsettled);
       }
 
-  -- engines and assets that stand for all that they stood for, beside the same names and quotes
+  -- engines that stand for all that they stood for, and assets of all holdings that they were of, beside the same names and quotes
   pub record AreStill (prices new_prices : P) (members new_members : List (Member A Plan)) : Type 0 where
     pub prices_still : (m : Meaning) → weights_stand prices m → weights_stand new_prices m
     pub names_still : names_of new_members ≡ names_of members
     pub quotes_still : quotes_of new_members ≡ quotes_of members
-    pub owned_still : (u : ℕ) (assets : Assets A Plan) → slice_get (assets_of new_members) u ≡ Some assets
-        → (before : Assets A Plan) × (slice_get (assets_of members) u ≡ Some before) × ((h : Holding) → Owns gains_stand before h → Owns gains_stand assets h)
+    pub held_still : (u : ℕ) (assets : Assets A Plan) → slice_get (assets_of new_members) u ≡ Some assets
+        → (before : Assets A Plan) × (slice_get (assets_of members) u ≡ Some before) × ((h : Holding) → Holds gains_stand before h → Holds gains_stand assets h)
 
   -- an answer that appends none
   pub kept_still : (file : MarketFile) (prices new_prices : P) (rows : A) (plan : Plan) (members new_members : List (Member A Plan)) (ledger : LedgerOf)
@@ -163,9 +162,9 @@ module _ {P A Plan : Type 0} (weights_stand : P → Meaning → Type 0) (gains_s
     prices_stand = are.prices_still (weights_of file.net file.tree journal.history) kept.prices_stand;
     rows_stand = kept.rows_stand;
     named = are.names_still ∙ kept.named;
-    owns = λ u assets at.
-        let own = are.owned_still u assets at in
-        own.2 (holding_of file.net file.tree journal.history u) (kept.owns u (own.0) (own.1));
+    held = λ u assets at.
+        let own = are.held_still u assets at in
+        own.2 (holding_of file.net file.tree journal.history u) (kept.held u (own.0) (own.1));
     quotes_kept = λ u quote at. kept.quotes_kept u quote (subst (λ (qs : List (Option LastQuote)). slice_get qs u ≡ Some (Some quote)) are.quotes_still at);
     accounts_kept = kept.accounts_kept;
     ledger_room = kept.ledger_room;
@@ -189,7 +188,7 @@ module _ {P A Plan : Type 0} (weights_stand : P → Meaning → Type 0) (gains_s
     prices_stand = kept.prices_stand;
     rows_stand = still (rows_of file.net file.tree journal.history) kept.rows_stand;
     named = kept.named;
-    owns = kept.owns;
+    held = kept.held;
     quotes_kept = kept.quotes_kept;
     accounts_kept = kept.accounts_kept;
     ledger_room = kept.ledger_room;

@@ -2,7 +2,6 @@
 use Rattle.std.specs.Prelude.{◌≡◌, ℕ, List, [], ◌∷◌, ◌++◌, map, length, Option, None, option_map}
 use Rattle.std.proofs.Common.{inr, refl, sym, ap, ap₂, ◌∙◌, subst, arith}
 use Rattle.std.proofs.lemmas.List.{length_push, map-append}
-use Rattle.mk_net.specs.declared.words.Pair.{Pair}
 use Rattle.mk_net.specs.Network.{Variable}
 use Rattle.mk_net.specs.Name.{IsName}
 use Rattle.mk_exact.specs.History.{Entry, Join, users, resolutions, revision, is_settlement}
@@ -12,7 +11,7 @@ use Rattle.mk_file.specs.declared.market_file.MarketFile.{MarketFile}
 use Rattle.mk_file.specs.MarketOf.{market_of}
 use Rattle.mk_engine.specs.Meaning.{Meaning}
 use Rattle.mk_assets.specs.declared.assets.Assets.{Assets}
-use Rattle.mk_assets.specs.Holdings.{Owns, opening_holding}
+use Rattle.mk_assets.specs.Holdings.{Holds, opening_holding}
 use Rattle.mk_cash.specs.Accounts.{account_of, empty_account, LedgerOf}
 use Rattle.mk_command.specs.declared.command.Command.TheVariants.{User}
 use Rattle.mk_reply.specs.declared.payments.Payment.{Payment}
@@ -30,7 +29,7 @@ use Rattle.mk_market.specs.Trading.{Trading, IsAnswered}
 use Rattle.mk_market.specs.inner.Keeping.{quoted, standing_of, IsKept, TakesAsMuch}
 use Rattle.mk_record.proofs.Appends.{not_there}
 use Rattle.mk_market.proofs.Growing.{kept_grown}
-use Rattle.mk_market.proofs.Owned.{owned_joined, none_quoted_joined}
+use Rattle.mk_market.proofs.Owned.{held_joined, none_quoted_joined}
 use Rattle.mk_market.proofs.Accounted.{paid_opened, accounts_joined}
 use Rattle.mk_market.proofs.Replies.{answer_allowed, refused_stays, unsettled}
 use Rattle.mk_replay.specs.Tills.{TillOf}
@@ -48,8 +47,7 @@ module _ {P A Plan : Type 0} (weights_stand : P → Meaning → Type 0) (gains_s
     (file : MarketFile) (prices : P) (rows : A) (plan : Plan) (members : List (Member A Plan)) (ledger : LedgerOf) (journal : JournalOf) (payments : Option (List Payment)) (till : Option TillOf)
     (kept : IsKept weights_stand gains_stand plan_for file prices rows plan members ledger journal payments till)
     (name : List ℕ) where
-  module _ (assets : Assets A Plan) (known : List Pair) (known_is : known ≡ resolutions journal.history)
-      (owns : Owns gains_stand assets (opening_holding file.net file.tree known)) (new_members : List (Member A Plan)) (more : new_members ≡ members ++ new_member name assets ∷ [])
+  module _ (assets : Assets A Plan) (held : Holds gains_stand assets (opening_holding file.net file.tree (resolutions journal.history))) (new_members : List (Member A Plan)) (more : new_members ≡ members ++ new_member name assets ∷ [])
       (new_ledger : LedgerOf) (new_journal : JournalOf) (history : new_journal.history ≡ journal.history ++ Join name ∷ [])
       (none : None ≡ first_refusal (market_of file) journal.history (User name)) where
     quotes_more : map (option_map quoted) (quotes_of new_members) ≡ map (option_map quoted) (quotes_of members) ++ None ∷ []
@@ -96,8 +94,7 @@ module _ {P A Plan : Type 0} (weights_stand : P → Meaning → Type 0) (gains_s
           prices_grown = λ m stands. stands;
           rows_grown = λ m stands. stands;
           names = names_more;
-          owned = rw more (owned_joined file.net file.tree H name gains_stand members assets kept.named kept.safe.proper kept.safe.bounded.transfers_fit kept.owns
-              (subst (λ (ps : List Pair). Owns gains_stand assets (opening_holding file.net file.tree ps)) known_is owns));
+          held = rw more (held_joined file.net file.tree H name gains_stand members assets kept.named kept.safe.proper kept.safe.bounded.transfers_fit kept.held held);
           none_quoted = rw more (none_quoted_joined file.net file.tree H name members assets);
           accounts = rw opened (accounts_joined (market_of file) H (unsettled (market_of file) H (User name) none) ledger.accounts name kept.safe.bounded.transfers_fit kept.accounts_kept);
           ledger_room = rw opened kept.ledger_room;

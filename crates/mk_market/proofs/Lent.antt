@@ -1,16 +1,13 @@
 -- The users of a market, of whom one has other assets or another quote.
 use Rattle.std.specs.Prelude.{◌≡◌, ◌≢◌, ℕ, zero, suc, ◌<◌, ◌⊎◌, List, [], ◌∷◌, map, length, Option, Some, None, slice_get, slice_set}
-use Rattle.std.proofs.Common.{refl, sym, ap, ◌∙◌, subst, inl, inr, arith}
+use Rattle.std.proofs.Common.{refl, sym, ap, ◌∙◌, inl, inr, arith}
 use Rattle.std.proofs.lemmas.List.{length-map, map-set}
 use Rattle.std.proofs.lemmas.Option.{get_or_from_slice_get}
 use Rattle.std.proofs.Math.Seq.{map-set_same}
-use Rattle.mk_engine.specs.Meaning.{Meaning}
 use Rattle.mk_assets.specs.declared.assets.Assets.{Assets}
-use Rattle.mk_assets.specs.Holdings.{Holding, Owns}
 use Rattle.mk_record.specs.declared.last_quote.LastQuote.{LastQuote}
 use Rattle.mk_record.specs.declared.users.Member.{Member}
 use Rattle.mk_record.specs.Members.{names_of, assets_of, quotes_of, with_member, with_assets, with_quote}
-use Rattle.mk_market.specs.inner.Quoting.{OwnsAt}
 
 -- what is read of a list of which one item was set is that item, or was there
 pub read_set : {X : Type 0} (xs : List X) (i j : ℕ) (x y : X) → slice_get (slice_set xs i x) j ≡ Some y → ((j ≡ i) × (y ≡ x)) ⊎ (slice_get xs j ≡ Some y)
@@ -77,13 +74,3 @@ module _ {E P : Type 0} (members : List (Member E P)) (user : ℕ) where
 
   pub quotes_set : (quote : LastQuote) → user < length members → quotes_of (with_quote members user quote) ≡ slice_set (quotes_of members) user (Some quote)
   quotes_set quote within = field_set (λ (m : Member E P). m.quote) (λ (m : Member E P). record m { quote = Some quote }) (Some quote) within (λ m. refl)
-
-  module _ (gains_stand : E → Meaning → Type 0) (within : user < length members) (lent assets : Assets E P) (read : slice_get (assets_of members) user ≡ Some lent) where
-    -- assets that stand for all that those before stood for
-    pub owned_still : ((h : Holding) → Owns gains_stand lent h → Owns gains_stand assets h) → (u : ℕ) (h : Holding)
-        → OwnsAt gains_stand members u h → OwnsAt gains_stand (with_assets members user assets) u h
-    owned_still still u h owns found at = by (read_set (assets_of members) user u assets found (subst (λ (xs : List (Assets E P)). slice_get xs u ≡ Some found) (assets_set assets within) at))
-      where
-        by : ((u ≡ user) × (found ≡ assets)) ⊎ (slice_get (assets_of members) u ≡ Some found) → Owns gains_stand found h
-        by (inl p) = subst (λ (a : Assets E P). Owns gains_stand a h) (sym (p.1)) (still h (owns lent (ap (slice_get (assets_of members)) (p.0) ∙ read)))
-        by (inr e) = owns found e

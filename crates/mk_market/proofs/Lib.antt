@@ -22,7 +22,7 @@ pub mod Openings
 pub mod Traded
 pub mod Trades
 pub mod Withdrawals
-pub mod Told
+pub mod Learnt
 pub mod Resolvable
 pub mod Resolved
 pub mod Paid

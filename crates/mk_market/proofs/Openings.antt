@@ -57,7 +57,7 @@ opening_kept weights_stand gains_stand plan_for file prices rows plan members le
       prices_stand = prices_stand;
       rows_stand = rows_stand;
       named = refl;
-      owns = λ u assets at. absurd (cc);
+      held = λ u assets at. absurd (cc);
       quotes_kept = λ u quote at. absurd (cc);
       accounts_kept = record { one_each = refl; each = λ u h. absurd (omega (arith, h)) };
       ledger_room = refl;

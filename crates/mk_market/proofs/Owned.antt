@@ -1,4 +1,4 @@
--- What the users of a market own once the assets of one changed, or a user joined.
+-- What the users of a market hold once the assets of one changed, or a user joined.
 use Rattle.std.specs.Prelude.{◌≡◌, ℕ, ◌+◌, ◌*◌, ◌≤◌, zero, suc, List, [], ◌∷◌, ◌++◌, length, Bool, true, false, ◌==◌, cond, Option, Some, None, option_map, unwrap_or, slice_get, slice_set, ◌⊎◌}
 use Rattle.std.specs.List.{AllByRecursion, count_by}
 use Rattle.std.proofs.Common.{inl, inr, refl, sym, ap, ◌∙◌, subst, arith, eq-eqb, ne_eqb}
@@ -15,7 +15,7 @@ use Rattle.mk_engine.specs.Meaning.{Meaning}
 use Rattle.mk_beliefs.specs.Meanings.{gains_of, grown_for}
 use Rattle.mk_beliefs.proofs.Grown.{gains_grow, newcomer_has_none}
 use Rattle.mk_assets.specs.declared.assets.Assets.{Assets}
-use Rattle.mk_assets.specs.Holdings.{Holding, Owns, opening_holding, with_deposit, with_withdrawal}
+use Rattle.mk_assets.specs.Holdings.{Holding, Holds, opening_holding, with_deposit, with_withdrawal}
 use Rattle.mk_record.specs.declared.last_quote.LastQuote.{LastQuote}
 use Rattle.mk_rules.specs.Bounded.{FitsTransfer}
 use Rattle.mk_rules.proofs.Bounds.{count_first}
@@ -82,16 +82,16 @@ module _ {E Plan : Type 0} (members : List (Member E Plan)) (user : ℕ) (before
       → ((u ≡ user) × (after ≡ x)) ⊎ ((u ≡ user → ⊥) × (slice_get (assets_of members) u ≡ Some x))
   whose u x at = set_cases (assets_of members) user u after x (subst (λ (xs : List (Assets E Plan)). slice_get xs u ≡ Some x) assets_set at)
 
-  -- where they stand for all that they stood for, so do each user's
-  pub all_still : (stands_for : E → Meaning → Type 0) → ((h : Holding) → Owns stands_for before h → Owns stands_for after h)
+  -- where they are of all holdings that they were of, so are each user's
+  pub all_still : (stands_for : E → Meaning → Type 0) → ((h : Holding) → Holds stands_for before h → Holds stands_for after h)
       → (u : ℕ) (x : Assets E Plan) → slice_get (assets_of (with_assets members user after)) u ≡ Some x
-      → (old : Assets E Plan) × (slice_get (assets_of members) u ≡ Some old) × ((h : Holding) → Owns stands_for old h → Owns stands_for x h)
+      → (old : Assets E Plan) × (slice_get (assets_of members) u ≡ Some old) × ((h : Holding) → Holds stands_for old h → Holds stands_for x h)
   all_still stands_for still u x at = each (whose u x at)
     where
       each : ((u ≡ user) × (after ≡ x)) ⊎ ((u ≡ user → ⊥) × (slice_get (assets_of members) u ≡ Some x))
-          → (old : Assets E Plan) × (slice_get (assets_of members) u ≡ Some old) × ((h : Holding) → Owns stands_for old h → Owns stands_for x h)
-      each (inl h) = (before, ap (slice_get (assets_of members)) (h.0) ∙ there, λ (held : Holding) owns. subst (λ (a : Assets E Plan). Owns stands_for a held) (h.1) (still held owns))
-      each (inr h) = (x, h.1, λ (held : Holding) owns. owns)
+          → (old : Assets E Plan) × (slice_get (assets_of members) u ≡ Some old) × ((h : Holding) → Holds stands_for old h → Holds stands_for x h)
+      each (inl h) = (before, ap (slice_get (assets_of members)) (h.0) ∙ there, λ (holding : Holding) held. subst (λ (a : Assets E Plan). Holds stands_for a holding) (h.1) (still holding held))
+      each (inr h) = (x, h.1, λ (holding : Holding) held. held)
 
 -- what each user holds after an entry
 module _ (network : List Variable) (tree : GivenTree) (H : List Entry) where
@@ -115,18 +115,18 @@ module _ (network : List Variable) (tree : GivenTree) (H : List Entry) where
       ∙ ap (λ (n : ℕ). holding (gains_of network tree H u) n (withdrawn H u + bits_out u e)) d
       ∙ ap (holding (gains_of network tree H u) (deposited H u)) w
 
-  -- each user owns what the history leaves, where one user's assets do and nothing changes for another
-  pub owned_one : {E Plan : Type 0} (stands_for : E → Meaning → Type 0) (members : List (Member E Plan)) (user : ℕ) (before after : Assets E Plan) (e : Entry)
+  -- each user's assets are those that the history leaves, where one user's are and nothing changes for another
+  pub held_one : {E Plan : Type 0} (stands_for : E → Meaning → Type 0) (members : List (Member E Plan)) (user : ℕ) (before after : Assets E Plan) (e : Entry)
       → slice_get (assets_of members) user ≡ Some before
-      → ((u : ℕ) (x : Assets E Plan) → slice_get (assets_of members) u ≡ Some x → Owns stands_for x (holding_of network tree H u))
-      → Owns stands_for after (holding_of network tree (H ++ e ∷ []) user)
+      → ((u : ℕ) (x : Assets E Plan) → slice_get (assets_of members) u ≡ Some x → Holds stands_for x (holding_of network tree H u))
+      → Holds stands_for after (holding_of network tree (H ++ e ∷ []) user)
       → ((u : ℕ) → (u ≡ user → ⊥) → holding_of network tree (H ++ e ∷ []) u ≡ holding_of network tree H u)
-      → (u : ℕ) (x : Assets E Plan) → slice_get (assets_of (with_assets members user after)) u ≡ Some x → Owns stands_for x (holding_of network tree (H ++ e ∷ []) u)
-  owned_one {E} {Plan} stands_for members user before after e there owns own others u x at = each (whose members user before after there u x at)
+      → (u : ℕ) (x : Assets E Plan) → slice_get (assets_of (with_assets members user after)) u ≡ Some x → Holds stands_for x (holding_of network tree (H ++ e ∷ []) u)
+  held_one {E} {Plan} stands_for members user before after e there held own others u x at = each (whose members user before after there u x at)
     where
-      each : ((u ≡ user) × (after ≡ x)) ⊎ ((u ≡ user → ⊥) × (slice_get (assets_of members) u ≡ Some x)) → Owns stands_for x (holding_of network tree (H ++ e ∷ []) u)
-      each (inl h) = subst (λ (v : ℕ). Owns stands_for x (holding_of network tree (H ++ e ∷ []) v)) (sym (h.0)) (subst (λ (a : Assets E Plan). Owns stands_for a (holding_of network tree (H ++ e ∷ []) user)) (h.1) own)
-      each (inr h) = subst (Owns stands_for x) (sym (others u (h.0))) (owns u x (h.1))
+      each : ((u ≡ user) × (after ≡ x)) ⊎ ((u ≡ user → ⊥) × (slice_get (assets_of members) u ≡ Some x)) → Holds stands_for x (holding_of network tree (H ++ e ∷ []) u)
+      each (inl h) = subst (λ (v : ℕ). Holds stands_for x (holding_of network tree (H ++ e ∷ []) v)) (sym (h.0)) (subst (λ (a : Assets E Plan). Holds stands_for a (holding_of network tree (H ++ e ∷ []) user)) (h.1) own)
+      each (inr h) = subst (Holds stands_for x) (sym (others u (h.0))) (held u x (h.1))
 
   -- bits are paid in by a user
   pub deposit_holding : (user bits : ℕ) → holding_of network tree (H ++ Deposit user bits ∷ []) user ≡ with_deposit bits (holding_of network tree H user)
@@ -210,21 +210,21 @@ module _ (network : List Variable) (tree : GivenTree) (H : List Entry) (name : L
       ∙ ap (λ (d : ℕ). holding none d (withdrawn H n)) (moved.0)
       ∙ ap (holding none 0) (moved.1)
 
-  pub owned_joined : {E Plan : Type 0} (stands_for : E → Meaning → Type 0) (members : List (Member E Plan)) (assets : Assets E Plan)
+  pub held_joined : {E Plan : Type 0} (stands_for : E → Meaning → Type 0) (members : List (Member E Plan)) (assets : Assets E Plan)
       → names_of members ≡ users H → IsProper network H → AllByRecursion (FitsTransfer (length (users H))) H
-      → ((u : ℕ) (x : Assets E Plan) → slice_get (assets_of members) u ≡ Some x → Owns stands_for x (holding_of network tree H u))
-      → Owns stands_for assets (opening_holding network tree (resolutions H))
-      → (u : ℕ) (x : Assets E Plan) → slice_get (assets_of (members ++ new_member name assets ∷ [])) u ≡ Some x → Owns stands_for x (holding_of network tree (H ++ Join name ∷ []) u)
-  owned_joined {E} {Plan} stands_for members assets named proper fits owns own u x at =
+      → ((u : ℕ) (x : Assets E Plan) → slice_get (assets_of members) u ≡ Some x → Holds stands_for x (holding_of network tree H u))
+      → Holds stands_for assets (opening_holding network tree (resolutions H))
+      → (u : ℕ) (x : Assets E Plan) → slice_get (assets_of (members ++ new_member name assets ∷ [])) u ≡ Some x → Holds stands_for x (holding_of network tree (H ++ Join name ∷ []) u)
+  held_joined {E} {Plan} stands_for members assets named proper fits held own u x at =
       each (push_cases (assets_of members) u assets x (subst (λ (xs : List (Assets E Plan)). slice_get xs u ≡ Some x) (map-append (λ (m : Member E Plan). m.assets) members (new_member name assets ∷ [])) at))
     where
       count : length (assets_of members) ≡ length (users H)
       count = length-map members (λ (m : Member E Plan). m.assets) ∙ sym (length-map members (λ (m : Member E Plan). m.name)) ∙ ap (λ (names : List (List ℕ)). length names) named
 
-      each : ((u ≡ length (assets_of members)) × (assets ≡ x)) ⊎ (slice_get (assets_of members) u ≡ Some x) → Owns stands_for x (holding_of network tree (H ++ Join name ∷ []) u)
-      each (inl h) = subst (λ (v : ℕ). Owns stands_for x (holding_of network tree (H ++ Join name ∷ []) v)) (sym (h.0 ∙ count))
-          (subst (Owns stands_for x) (sym (join_others (length (users H)) ∙ newcomer_holding proper fits)) (subst (λ (a : Assets E Plan). Owns stands_for a (opening_holding network tree (resolutions H))) (h.1) own))
-      each (inr h) = subst (Owns stands_for x) (sym (join_others u)) (owns u x h)
+      each : ((u ≡ length (assets_of members)) × (assets ≡ x)) ⊎ (slice_get (assets_of members) u ≡ Some x) → Holds stands_for x (holding_of network tree (H ++ Join name ∷ []) u)
+      each (inl h) = subst (λ (v : ℕ). Holds stands_for x (holding_of network tree (H ++ Join name ∷ []) v)) (sym (h.0 ∙ count))
+          (subst (Holds stands_for x) (sym (join_others (length (users H)) ∙ newcomer_holding proper fits)) (subst (λ (a : Assets E Plan). Holds stands_for a (opening_holding network tree (resolutions H))) (h.1) own))
+      each (inr h) = subst (Holds stands_for x) (sym (join_others u)) (held u x h)
 
   -- a newcomer was quoted nothing
   pub none_quoted_joined : {E Plan : Type 0} (members : List (Member E Plan)) (assets : Assets E Plan) (u : ℕ) (quote : LastQuote)

@@ -1,12 +1,8 @@
 -- Users are paid, one after another.
-use Rattle.std.specs.Prelude.{◌≡◌, ℕ, ◌+◌, ◌<◌, ◌≤◌, ◌^◌, zero, suc, List, [], ◌∷◌, ◌++◌, length, map, take, Some, slice_get, slice_set, ◌⊎◌}
+use Rattle.std.specs.Prelude.{◌≡◌, ℕ, ◌+◌, ◌<◌, ◌^◌, zero, suc, List, [], ◌∷◌, ◌++◌, length, map, take, Some, slice_get}
 use Rattle.std.specs.List.{AllByRecursion, AllZip, enumerate_from}
-use Rattle.std.proofs.Common.{refl, sym, ap, ap₂, add-zero, ◌∙◌, subst, inl, inr, arith}
-use Rattle.std.proofs.lemmas.Bool.{cases_eq}
-use Rattle.std.proofs.lemmas.List.{map-append, length-map, length_push, length-set, get_or-set_same, get_or-set_other}
-use Rattle.std.proofs.lemmas.Option.{slice_get_within}
-use Rattle.mk_cash.specs.declared.ledger.Account.{Account}
-use Rattle.mk_cash.specs.Accounts.{account_of, empty_account}
+use Rattle.std.proofs.Common.{refl, sym, ap, ap₂, add-zero, ◌∙◌, subst, arith}
+use Rattle.std.proofs.lemmas.List.{map-append, length-map, length_push}
 use Rattle.mk_engine.specs.Meaning.{Meaning}
 use Rattle.mk_net.specs.Bounds.{number_limit}
 use Rattle.mk_net.specs.Network.{Variable}
@@ -24,16 +20,13 @@ use Rattle.mk_tree.specs.Given.{GivenTree}
 use Rattle.mk_enclose.specs.declared.factor.Factor.{Factor}
 use Rattle.mk_enclose.specs.Enclosure.{Encloses, IsExact, IsGradedWithin}
 use Rattle.mk_enclose.specs.Factor.{StandsFor}
-use Rattle.mk_assets.specs.Holdings.{Holding}
 use Rattle.mk_reply.specs.declared.payments.Payment.{Payment}
 use Rattle.mk_rules.specs.Answers.{IsPayment}
 use Rattle.mk_answers.specs.Open.{IsOpen, IsFactorFor}
 use Rattle.mk_record.specs.declared.users.Member.{Member}
 use Rattle.mk_record.specs.Members.{names_of, quotes_of}
-use Rattle.mk_market.specs.inner.Paying.{ArePaid}
-use Rattle.mk_market.specs.inner.Quoting.{OwnsAt}
+use Rattle.mk_market.specs.inner.Keeping.{AreHeld}
 use Rattle.mk_market.proofs.Lent.{there}
-use Rattle.mk_market.proofs.Owned.{push_cases}
 use Rattle.mk_market.proofs.Weaker.{cash_when}
 
 -- ---- one user
@@ -93,12 +86,12 @@ next_of {X} (y ∷ xs) m (suc n) x e =
     ∙ ap (λ (rest : List (ℕ × X)). (m, y) ∷ rest) (next_of xs (m + 1) n x e)
     ∙ ap (λ (j : ℕ). (m, y) ∷ (enumerate_from (m + 1) (take n xs) ++ (j, x) ∷ [])) l
 
-module _ {A Plan : Type 0} (gains_stand : A → Meaning → Type 0) (network : List Variable) (H : List Entry) (points : ℕ) (old : List (Member A Plan)) where
+module _ {A Plan : Type 0} (gains_stand : A → Meaning → Type 0) (network : List Variable) (tree : GivenTree) (H : List Entry) (points : ℕ) (old : List (Member A Plan)) where
   -- the users before a place have their payments
   pub record ArePaidBefore (n : ℕ) (new : List (Member A Plan)) (payments : List Payment) : Type 0 where
     pub names : names_of new ≡ names_of old
     pub quotes : quotes_of new ≡ quotes_of old
-    pub owned : (u : ℕ) (h : Holding) → OwnsAt gains_stand old u h → OwnsAt gains_stand new u h
+    pub held : AreHeld gains_stand network tree H new
     pub made : length payments ≡ n
     pub in_order : map (λ (p : Payment). p.user) payments ≡ take n (names_of old)
     pub low_ends : AllByRecursion (λ (p : Payment). p.paid ≡ p.low) payments
@@ -110,17 +103,17 @@ module _ {A Plan : Type 0} (gains_stand : A → Meaning → Type 0) (network : L
 
   pub one_paid : (n : ℕ) (before now : List (Member A Plan)) (payments new_payments : List Payment) (payment : Payment) → n < length old
       → ArePaidBefore n before payments
-      → ((u : ℕ) (h : Holding) → OwnsAt gains_stand before u h → OwnsAt gains_stand now u h) → names_of now ≡ names_of before → quotes_of now ≡ quotes_of before
+      → AreHeld gains_stand network tree H now → names_of now ≡ names_of before → quotes_of now ≡ quotes_of before
       → slice_get (names_of before) n ≡ Some payment.user
       → payment.paid ≡ payment.low → payment.low < number_limit → payment.high < number_limit
       → (IsSound network H → (state name : List ℕ) → possible_states network H always ≡ state ∷ []
       → slice_get (names_of before) n ≡ Some name
       → IsPayment network H points state (n, name) payment)
       → new_payments ≡ payments ++ payment ∷ [] → ArePaidBefore (n + 1) now new_payments
-  one_paid n before now payments new_payments payment within so_far still same_names same_quotes its_user low_end low_fits high_fits is_paid pushed = record {
+  one_paid n before now payments new_payments payment within so_far held same_names same_quotes its_user low_end low_fits high_fits is_paid pushed = record {
     names = same_names ∙ so_far.names;
     quotes = same_quotes ∙ so_far.quotes;
-    owned = λ u h owns. still u h (so_far.owned u h owns);
+    held = held;
     made = ap (λ (xs : List Payment). length xs) pushed ∙ length_push payments payment ∙ ap (λ (k : ℕ). k + 1) so_far.made;
     in_order =
         ap (map (λ (p : Payment). p.user)) pushed

@@ -10,20 +10,19 @@ use Rattle.mk_file.specs.MarketOf.{market_of}
 use Rattle.mk_engine.specs.Meaning.{Meaning}
 use Rattle.mk_beliefs.specs.Meanings.{weights_of}
 use Rattle.mk_assets.specs.declared.assets.Assets.{Assets}
-use Rattle.mk_assets.specs.Holdings.{Holding}
 use Rattle.mk_cash.specs.Accounts.{LedgerOf}
+use Rattle.mk_command.specs.declared.command.Command.{Command}
 use Rattle.mk_reply.specs.declared.payments.Payment.{Payment}
+use Rattle.mk_reply.specs.declared.reply.Reply.{Reply}
 use Rattle.mk_rules.specs.Answers as rules
 use Rattle.mk_rules.specs.Refusals.{user_number}
 use Rattle.mk_rules.specs.Quotes.{Quoted, Quote, Quotes}
-use Rattle.mk_answers.specs.Open.{holding_of}
 use Rattle.mk_record.specs.declared.last_quote.LastQuote.{LastQuote}
 use Rattle.mk_record.specs.declared.users.Member.{Member}
 use Rattle.mk_record.specs.Journals.{JournalOf}
 use Rattle.mk_record.specs.Members.{names_of, assets_of, quotes_of, with_quote}
-use Rattle.mk_market.specs.Trading.{Trading}
-use Rattle.mk_market.specs.inner.Keeping.{quoted, standing_of, IsKeptQuote, AreKeptQuotes, IsKept}
-use Rattle.mk_market.specs.inner.Quoting.{OwnsAt}
+use Rattle.mk_market.specs.Trading.{Trading, IsAnswered}
+use Rattle.mk_market.specs.inner.Keeping.{quoted, standing_of, AreHeld, IsKeptQuote, AreKeptQuotes, IsKept}
 use Rattle.mk_market.proofs.Lent.{in_range, read_set, names_beside, assets_beside, quotes_set}
 use Rattle.mk_replay.specs.Tills.{TillOf}
 
@@ -46,21 +45,21 @@ each_set P user quote qs new old u held at = by (read_set qs user u (Some quote)
     by (inl p) = subst (λ (n : ℕ). P n held) (sym (p.0)) (subst (P user) (sym (some_is held quote (p.1))) new)
     by (inr e) = old u held e
 
--- users of whom one was quoted this, and whose assets stand for what they stood for
-pub record AreQuoted {A Plan : Type 0} (gains_stand : A → Meaning → Type 0) (members new_members : List (Member A Plan)) (user : ℕ) (quote : LastQuote) : Type 0 where
+-- users of whom one was quoted this, and whose assets are those that a history leaves
+pub record AreQuoted {A Plan : Type 0} (gains_stand : A → Meaning → Type 0) (network : List Variable) (tree : GivenTree) (H : List Entry) (members new_members : List (Member A Plan)) (user : ℕ) (quote : LastQuote) : Type 0 where
   pub names : names_of new_members ≡ names_of members
   pub quotes : quotes_of new_members ≡ slice_set (quotes_of members) user (Some quote)
-  pub assets : (u : ℕ) (h : Holding) → OwnsAt gains_stand members u h → OwnsAt gains_stand new_members u h
+  pub held : AreHeld gains_stand network tree H new_members
 
 -- where the quote was set beside other assets
-pub quote_was_set : {A Plan : Type 0} (gains_stand : A → Meaning → Type 0) (members mid new_members : List (Member A Plan)) (user : ℕ) (quote : LastQuote)
-    → names_of mid ≡ names_of members → quotes_of mid ≡ quotes_of members → ((u : ℕ) (h : Holding) → OwnsAt gains_stand members u h → OwnsAt gains_stand mid u h)
-    → user < length members → new_members ≡ with_quote mid user quote → AreQuoted gains_stand members new_members user quote
-quote_was_set {A} {Plan} gains_stand members mid new_members user quote same_names same_quotes still within set = record {
+pub quote_was_set : {A Plan : Type 0} (gains_stand : A → Meaning → Type 0) (network : List Variable) (tree : GivenTree) (H : List Entry) (members mid new_members : List (Member A Plan)) (user : ℕ) (quote : LastQuote)
+    → names_of mid ≡ names_of members → quotes_of mid ≡ quotes_of members → AreHeld gains_stand network tree H mid
+    → user < length members → new_members ≡ with_quote mid user quote → AreQuoted gains_stand network tree H members new_members user quote
+quote_was_set {A} {Plan} gains_stand network tree H members mid new_members user quote same_names same_quotes held within set = record {
   names = ap names_of set ∙ names_beside mid user quote ∙ same_names;
   quotes = ap quotes_of set ∙ quotes_set mid user quote within_mid ∙ ap (λ (qs : List (Option LastQuote)). slice_set qs user (Some quote)) same_quotes;
-  assets = λ u h owns assets at.
-      still u h owns assets (subst (λ (xs : List (Assets A Plan)). slice_get xs u ≡ Some assets) (ap assets_of set ∙ assets_beside mid user quote) at);
+  held = λ u assets at.
+      held u assets (subst (λ (xs : List (Assets A Plan)). slice_get xs u ≡ Some assets) (ap assets_of set ∙ assets_beside mid user quote) at);
 }
   where
     within_mid : user < length mid
@@ -86,7 +85,7 @@ standing_quoted journal new_members quotes said =
 module _ {P A Plan : Type 0} (weights_stand : P → Meaning → Type 0) (gains_stand : A → Meaning → Type 0) (plan_for : Plan → List Variable → GivenTree → Type 0)
     (file : MarketFile) (prices new_prices : P) (rows : A) (plan : Plan) (members new_members : List (Member A Plan)) (ledger : LedgerOf) (journal : JournalOf)
     (payments : Option (List Payment)) (till : Option TillOf) (kept : IsKept weights_stand gains_stand plan_for file prices rows plan members ledger journal payments till)
-    (user : ℕ) (quote : LastQuote) (is : IsKeptQuote file.net file.tree journal.history user quote) (are : AreQuoted gains_stand members new_members user quote) where
+    (user : ℕ) (quote : LastQuote) (is : IsKeptQuote file.net file.tree journal.history user quote) (are : AreQuoted gains_stand file.net file.tree journal.history members new_members user quote) where
   quotes_kept_then : AreKeptQuotes file.net file.tree journal.history (quotes_of new_members)
   quotes_kept_then =
       subst (AreKeptQuotes file.net file.tree journal.history) (sym are.quotes)
@@ -102,7 +101,7 @@ module _ {P A Plan : Type 0} (weights_stand : P → Meaning → Type 0) (gains_s
     rows_stand = kept.rows_stand;
     prices_stand = still_prices (weights_of file.net file.tree journal.history) kept.prices_stand;
     named = are.names ∙ kept.named;
-    owns = λ u. are.assets u (holding_of file.net file.tree journal.history u) (kept.owns u);
+    held = are.held;
     quotes_kept = quotes_kept_then;
     accounts_kept = kept.accounts_kept;
     ledger_room = kept.ledger_room;
@@ -119,16 +118,16 @@ module _ {P A Plan : Type 0} (weights_stand : P → Meaning → Type 0) (gains_s
     (file : MarketFile) (prices new_prices : P) (rows : A) (plan : Plan) (members new_members : List (Member A Plan)) (ledger : LedgerOf) (journal : JournalOf)
     (payments : Option (List Payment)) (till : Option TillOf) (kept : IsKept weights_stand gains_stand plan_for file prices rows plan members ledger journal payments till) where
   pub kept_unquoted : ((m : Meaning) → weights_stand prices m → weights_stand new_prices m) → names_of new_members ≡ names_of members → quotes_of new_members ≡ quotes_of members
-      → ((u : ℕ) (h : Holding) → OwnsAt gains_stand members u h → OwnsAt gains_stand new_members u h)
+      → AreHeld gains_stand file.net file.tree journal.history new_members
       → IsKept weights_stand gains_stand plan_for file new_prices rows plan new_members ledger journal payments till
-  kept_unquoted still same_names same_quotes assets = record {
+  kept_unquoted still same_names same_quotes held = record {
     legal = kept.legal;
     tree = kept.tree;
     planned = kept.planned;
     rows_stand = kept.rows_stand;
     prices_stand = still (weights_of file.net file.tree journal.history) kept.prices_stand;
     named = same_names ∙ kept.named;
-    owns = λ u. assets u (holding_of file.net file.tree journal.history u) (kept.owns u);
+    held = held;
     quotes_kept = subst (AreKeptQuotes file.net file.tree journal.history) (sym same_quotes) kept.quotes_kept;
     accounts_kept = kept.accounts_kept;
     ledger_room = kept.ledger_room;
@@ -139,3 +138,14 @@ module _ {P A Plan : Type 0} (weights_stand : P → Meaning → Type 0) (gains_s
     room = kept.room;
     till_room = kept.till_room;
   }
+
+-- an answer behind users who have learnt what is known, and were quoted the same, is one behind those before
+pub answered_learnt : {A Plan : Type 0} (file : MarketFile) (ledger : LedgerOf) (journal : JournalOf) (members learnt : List (Member A Plan))
+    → quotes_of learnt ≡ quotes_of members → (new : Trading) (command : Command) (reply : Reply)
+    → IsAnswered (trading file ledger journal learnt) new command reply → IsAnswered (trading file ledger journal members) new command reply
+answered_learnt file ledger journal members learnt same new command reply =
+    subst (λ (qs : List (Option LastQuote)). IsAnswered (record {
+      market = market_of file;
+      standing = record { history = journal.history; quotes = map (option_map quoted) qs };
+      accounts = ledger.accounts;
+    }) new command reply) same

@@ -1,5 +1,5 @@
 -- A market is kept whatever proves the facts that its file carries.
-use Rattle.std.specs.Prelude.{ℕ, ◌≡◌, ◌≤◌, List, false, Option, None}
+use Rattle.std.specs.Prelude.{◌≡◌, ◌≤◌, List, false, Option, None}
 use Rattle.std.proofs.Common.{Some, refl, sym, ap, subst, ◌∙◌}
 use Rattle.std.proofs.Math.Bridge.{le_prop}
 use Rattle.std.proofs.Math.Logic.{∥∥₁_prop}

@@ -20,7 +20,7 @@ use Rattle.mk_beliefs.specs.Meanings.{weights_of, rows_of}
 use Rattle.mk_beliefs.proofs.Grown.{weights_grow}
 use Rattle.mk_beliefs.proofs.Initials.{rows_grow}
 use Rattle.mk_assets.specs.declared.assets.Assets.{Assets}
-use Rattle.mk_assets.specs.Holdings.{Owns, max_bits}
+use Rattle.mk_assets.specs.Holdings.{Holds, max_bits}
 use Rattle.mk_cash.specs.declared.ledger.Account.{Account}
 use Rattle.mk_cash.specs.Accounts.{account_of, LedgerOf}
 use Rattle.mk_addition.specs.Adds.{IsAddText}
@@ -49,7 +49,7 @@ use Rattle.mk_market.specs.declared.adding.Regrown.{Regrown}
 use Rattle.mk_market.specs.Points.{AreAccounts}
 use Rattle.mk_market.specs.Trading.{Trading, IsAnswered}
 use Rattle.mk_market.specs.Suited.{SuitsLonger}
-use Rattle.mk_market.specs.inner.Adding.{IsLonger, OwnEach, AreRegrown, HasGrown}
+use Rattle.mk_market.specs.inner.Adding.{IsLonger, HoldEach, AreRegrown, HasGrown}
 use Rattle.mk_market.specs.inner.Restored.{IsTakenBack}
 use Rattle.mk_market.specs.inner.Keeping.{quoted, standing_of, IsKeptQuote, IsKept, TakesAsMuch}
 use Rattle.mk_market.proofs.Accounted.{accounts_kept}
@@ -89,20 +89,20 @@ suits_longer suits file longer add is each =
 -- one user's assets more
 pub own_more : {A Plan : Type 0} (gains_stand : A → Meaning → Type 0) (file : MarketFile)
     (H : List Entry) (all : List (Assets A Plan)) (user : ℕ) (own : Assets A Plan)
-    → length all ≡ user → OwnEach gains_stand file H all
-    → Owns gains_stand own (holding_of file.net file.tree H user)
-    → OwnEach gains_stand file H (all ++ own ∷ [])
-own_more {A} {Plan} gains_stand file H all user own count owns new u assets at =
+    → length all ≡ user → HoldEach gains_stand file H all
+    → Holds gains_stand own (holding_of file.net file.tree H user)
+    → HoldEach gains_stand file H (all ++ own ∷ [])
+own_more {A} {Plan} gains_stand file H all user own count held new u assets at =
     each (push_cases all u own assets at)
   where
     each : ((u ≡ length all) × (own ≡ assets)) ⊎ (slice_get all u ≡ Some assets)
-        → Owns gains_stand assets (holding_of file.net file.tree H u)
+        → Holds gains_stand assets (holding_of file.net file.tree H u)
     each (inl h) =
-        subst (λ (k : ℕ). Owns gains_stand assets (holding_of file.net file.tree H k))
+        subst (λ (k : ℕ). Holds gains_stand assets (holding_of file.net file.tree H k))
         (sym (h.0 ∙ count))
-        (subst (λ (x : Assets A Plan). Owns gains_stand x (holding_of file.net file.tree H user))
+        (subst (λ (x : Assets A Plan). Holds gains_stand x (holding_of file.net file.tree H user))
         (h.1) new)
-    each (inr e) = owns u assets e
+    each (inr e) = held u assets e
 
 -- the history of a safe market is placed in a file with one question more
 module _ (file longer : MarketFile) (a : Addition) (is : IsLonger file a longer) (H : List Entry)
@@ -214,10 +214,10 @@ module _ {P A E Plan : Type 0} (weights_stand : P → Meaning → Type 0)
         rows_stand = subst (λ (K : List Entry). gains_stand parts.rows (rows_of net tree K)) back
             (subst (gains_stand parts.rows) (sym (rows_grow net tree H (Adds a))) are.rows_stand);
         named = names ∙ kept.named ∙ sym (not_found H (Adds a) join_in refl) ∙ ap users back;
-        owns = λ u own at.
-            subst (λ (K : List Entry). Owns gains_stand own (holding_of net tree K u)) back
-            (subst (Owns gains_stand own) (sym (holding_same net tree H (Adds a) u refl refl refl))
-            (are.owned u own
+        held = λ u own at.
+            subst (λ (K : List Entry). Holds gains_stand own (holding_of net tree K u)) back
+            (subst (Holds gains_stand own) (sym (holding_same net tree H (Adds a) u refl refl refl))
+            (are.held u own
             (subst (λ (all : List (Assets A Plan)). slice_get all u ≡ Some own) assets at)));
         quotes_kept = λ u quote at.
             subst (λ (K : List Entry). IsKeptQuote net tree K u quote) back

@@ -1,6 +1,6 @@
 -- A variable is resolved.
 use Rattle.std.specs.Prelude.{◌≡◌, ℕ, ◌+◌, ◌<◌, List, [], ◌∷◌, ◌++◌, map, length, Option, Some}
-use Rattle.std.specs.Prelude.{None, option_map, option_to_list, slice_get, is_some}
+use Rattle.std.specs.Prelude.{None, option_map, option_to_list, is_some}
 use Rattle.std.proofs.Common.{Bool, true, false, not, cond, refl, sym, ap, ap₂, ◌∙◌, subst, arith, add-zero}
 use Rattle.std.specs.List.{cons_option}
 use Rattle.std.proofs.lemmas.List.{length_push}
@@ -21,9 +21,9 @@ use Rattle.mk_file.specs.declared.market_file.MarketFile.{MarketFile}
 use Rattle.mk_file.specs.MarketOf.{market_of}
 use Rattle.mk_engine.specs.Meaning.{Meaning, with_known}
 use Rattle.mk_beliefs.specs.Meanings.{weights_of, gains_of}
-use Rattle.mk_assets.specs.Holdings.{Holding, Owns, with_known_pair}
+use Rattle.mk_assets.specs.Holdings.{Holding, Holds}
+use Rattle.mk_assets.proofs.Learning.{held_further}
 use Rattle.mk_cash.specs.Accounts.{LedgerOf}
-use Rattle.mk_record.specs.declared.last_quote.LastQuote.{LastQuote}
 use Rattle.mk_command.specs.declared.command.Command.TheVariants.{Resolve}
 use Rattle.mk_reply.specs.declared.payments.Payment.{Payment}
 use Rattle.mk_reply.specs.declared.refusal.Refusal.TheVariants.{Impossible}
@@ -36,10 +36,9 @@ use Rattle.mk_rules.proofs.Revisions.{few_resolutions}
 use Rattle.mk_answers.specs.Open.{IsOpen, holding_of}
 use Rattle.mk_record.specs.declared.users.Member.{Member}
 use Rattle.mk_record.specs.Journals.{JournalOf}
-use Rattle.mk_record.specs.Members.{names_of, quotes_of}
+use Rattle.mk_record.specs.Members.{quotes_of}
 use Rattle.mk_record.specs.Refused.{CanBeResolved}
 use Rattle.mk_market.specs.inner.Keeping.{quoted, standing_of, IsKept, TakesAsMuch}
-use Rattle.mk_market.specs.inner.Quoting.{OwnsAt, CanBeTold}
 use Rattle.mk_market.specs.inner.Stopped.{CanAskOfPair}
 use Rattle.mk_market.proofs.Accounted.{accounts_kept}
 use Rattle.mk_record.proofs.Appends.{not_there, not_found}
@@ -51,7 +50,7 @@ use Rattle.mk_replay.specs.Tills.{TillOf}
 
 -- what users hold then
 told_holding : (network : List Variable) (tree : GivenTree) (H : List Entry) (pair : Pair) (u : ℕ)
-    → holding_of network tree (H ++ Resolves pair ∷ []) u ≡ with_known_pair pair (holding_of network tree H u)
+    → holding_of network tree (H ++ Resolves pair ∷ []) u ≡ record { meaning = with_known pair (gains_of network tree H u); deposited = deposited H u; withdrawn = withdrawn H u }
 told_holding network tree H pair u =
     holding_grows network tree H (Resolves pair) u
     ∙ ap₂ (λ (d w : ℕ). record { meaning = with_known pair (gains_of network tree H u); deposited = d; withdrawn = w }) (add-zero (deposited H u)) (add-zero (withdrawn H u))
@@ -72,17 +71,6 @@ module _ {P A Plan : Type 0} (weights_stand : P → Meaning → Type 0) (gains_s
       (kept.tree.covers pair.variable can.in_range.variable)
 
   module _ (place : ℕ) (at_home : home file.tree (pair ∷ []) ≡ Some place) where
-    pub can_be_told : CanBeTold gains_stand members place pair
-    can_be_told = λ u assets at. record {
-      can_learn = record {
-        holding = holding_of file.net file.tree journal.history u;
-        owns =
-            kept.owns u assets at;
-        in_range = can.in_range;
-      };
-      at_home = at_home;
-    }
-
     -- it can be asked whether the pair can come
     pub can_ask : CanAskOfPair weights_stand prices file.net place pair
     can_ask = record {
@@ -127,7 +115,7 @@ module _ {P A Plan : Type 0} (weights_stand : P → Meaning → Type 0) (gains_s
   pub asked_kept : (new_prices : P) → ((m : Meaning) → weights_stand prices m → weights_stand new_prices m)
       → IsKept weights_stand gains_stand plan_for file new_prices rows plan members ledger journal payments till
   asked_kept new_prices still = kept_still weights_stand gains_stand plan_for file prices new_prices rows plan members members ledger journal payments till kept
-      (record { prices_still = still; names_still = refl; quotes_still = refl; owned_still = λ u assets at. (assets, at, λ (h : Holding) owns. owns) })
+      (record { prices_still = still; names_still = refl; quotes_still = refl; held_still = λ u assets at. (assets, at, λ (h : Holding) held. held) })
 
   module _ (none : None ≡ first_refusal (market_of file) journal.history (Resolve words)) where
     reply : Reply
@@ -162,35 +150,32 @@ module _ {P A Plan : Type 0} (weights_stand : P → Meaning → Type 0) (gains_s
         let next : at ≡ revision journal.history + 1 = e ∙ ap (λ (H : List Entry). length H) history ∙ length_push journal.history (Resolves pair) in
         subst (λ (n : ℕ). IsAllowedFor (market_of file) (standing_of journal members) (OfCommand (Resolve words)) (Resolved words n)) (sym next) allowed
 
-    pub resolution_next : (new_members : List (Member A Plan)) (new_journal : JournalOf) → new_journal.history ≡ journal.history ++ Resolves pair ∷ []
-        → quotes_of new_members ≡ quotes_of members → (at : ℕ)
-        → standing_of new_journal new_members ≡ after (market_of file) (standing_of journal members) (OfCommand (Resolve words)) (Resolved words at)
+    pub resolution_next : (new_journal : JournalOf) → new_journal.history ≡ journal.history ++ Resolves pair ∷ [] → (at : ℕ)
+        → standing_of new_journal members ≡ after (market_of file) (standing_of journal members) (OfCommand (Resolve words)) (Resolved words at)
     unfolding reply
-    resolution_next new_members new_journal history same_quotes at =
-        ap₂ (λ (H : List Entry) (qs : List (Option LastQuote)). record { history = H; quotes = map (option_map quoted) qs }) (history ∙ sym longer) same_quotes
+    resolution_next new_journal history at = ap (λ (H : List Entry). record { history = H; quotes = map (option_map quoted) (quotes_of members) }) (history ∙ sym longer)
 
-    -- the market is kept
-    pub resolution_kept : (new_prices : P) (new_rows : A) (new_members : List (Member A Plan)) (new_journal : JournalOf)
+    -- the market is kept, and its users stay as they are: the pair is one more that their assets have not learnt
+    pub resolution_kept : (new_prices : P) (new_rows : A) (new_journal : JournalOf)
         → new_journal.history ≡ journal.history ++ Resolves pair ∷ [] → TakesAsMuch journal new_journal
         → ((m : Meaning) → weights_stand prices m → weights_stand new_prices (with_known pair m))
         → ((m : Meaning) → gains_stand rows m → gains_stand new_rows (with_known pair m))
-        → ((u : ℕ) (h : Holding) → OwnsAt gains_stand members u h → OwnsAt gains_stand new_members u (with_known_pair pair h))
-        → names_of new_members ≡ names_of members → quotes_of new_members ≡ quotes_of members
-        → IsKept weights_stand gains_stand plan_for file new_prices new_rows plan new_members ledger new_journal payments till
+        → IsKept weights_stand gains_stand plan_for file new_prices new_rows plan members ledger new_journal payments till
     unfolding reply
-    resolution_kept new_prices new_rows new_members new_journal history limits known known_rows told names same_quotes =
+    resolution_kept new_prices new_rows new_journal history limits known known_rows =
         let H = journal.history in
-        kept_grown weights_stand gains_stand plan_for file prices new_prices rows new_rows plan members new_members ledger ledger journal new_journal payments payments till till
+        kept_grown weights_stand gains_stand plan_for file prices new_prices rows new_rows plan members members ledger ledger journal new_journal payments payments till till
         (Resolves pair) (Resolve words) reply tt tt tt kept fit
-        (ap₂ (λ (H : List Entry) (qs : List (Option LastQuote)). record { history = H; quotes = map (option_map quoted) qs }) (history ∙ sym longer) same_quotes)
+        (resolution_next new_journal history (revision journal.history + 1))
         (record {
           history = history;
           limits = limits;
           prices_grown = known;
           rows_grown = known_rows;
-          names = names ∙ kept.named ∙ sym (not_found H (Resolves pair) join_in refl);
-          owned = λ u assets at. subst (Owns gains_stand assets) (sym (told_holding file.net file.tree H pair u)) (told u (holding_of file.net file.tree H u) (kept.owns u) assets at);
-          none_quoted = λ u quote at. subst (λ (qs : List (Option LastQuote)). slice_get qs u ≡ Some (Some quote)) same_quotes at;
+          names = kept.named ∙ sym (not_found H (Resolves pair) join_in refl);
+          held = λ u assets at. subst (Holds gains_stand assets) (sym (told_holding file.net file.tree H pair u))
+              (held_further gains_stand assets (holding_of file.net file.tree H u) pair (kept.held u assets at));
+          none_quoted = λ u quote at. at;
           accounts = accounts_kept (market_of file) H (unsettled (market_of file) H (Resolve words) none) (Resolves pair) ledger.accounts refl refl (λ u. (refl, refl)) kept.accounts_kept;
           ledger_room = kept.ledger_room;
           room = λ unsettled. kept.room (sym (not_there H (Resolves pair) is_settlement refl) ∙ unsettled);

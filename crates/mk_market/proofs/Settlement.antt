@@ -4,7 +4,7 @@ use Rattle.std.specs.Prelude.{filter, sum_by, length, true, false, Option, Some,
 use Rattle.std.specs.Prelude.{slice_get, MatchOption}
 use Rattle.std.specs.List.{AllZip, enumerate_from}
 use Rattle.std.proofs.Common.{inl, inr, refl, sym, ap, ap₂, ◌∙◌, subst, arith, add-zero}
-use Rattle.std.proofs.lemmas.List.{length-map, length_push}
+use Rattle.std.proofs.lemmas.List.{length_push}
 use Rattle.std.specs.Prelude.{All, option_to_list, ◌≤◌}
 use Rattle.std.proofs.lemmas.Option.{slice_get_within, slice_get-map, get_or_from_slice_get}
 use Rattle.mk_net.specs.Bounds.{max_payments}
@@ -28,7 +28,7 @@ use Rattle.mk_tree.specs.Given.{GivenTree}
 use Rattle.mk_file.specs.declared.market_file.MarketFile.{MarketFile}
 use Rattle.mk_file.specs.MarketOf.{market_of}
 use Rattle.mk_engine.specs.Meaning.{Meaning}
-use Rattle.mk_assets.specs.Holdings.{Holding, Owns}
+use Rattle.mk_assets.specs.Holdings.{Holds}
 use Rattle.mk_cash.specs.declared.ledger.Account.{Account}
 use Rattle.mk_cash.specs.Accounts.{account_of, LedgerOf}
 use Rattle.mk_record.specs.declared.last_quote.LastQuote.{LastQuote}
@@ -40,25 +40,22 @@ use Rattle.mk_reply.specs.declared.reply.Reply.TheVariants.{Settled, Refused}
 use Rattle.mk_rules.specs.Answers.{IsPayment, IsSettlement, IsSettling, settled_by_rule, ends_of, IsAnswer, entry_of}
 use Rattle.mk_rules.specs.Refusals.{first_refusal, refusals}
 use Rattle.mk_rules.proofs.Unrefused.{none_applies, not_faulted, all_resolved}
-use Rattle.mk_restore.specs.Restoring.{IsFit, IsSettledAt}
+use Rattle.mk_restore.specs.Restoring.{IsSettledAt}
 use Rattle.mk_restore.specs.Laws.{IsSafe}
 use Rattle.mk_restore.proofs.Safe.{HasUnits}
 use Rattle.mk_rules.proofs.Paying.{SettlingIs, settling_is}
 use Rattle.mk_replay.specs.Tills.{TillOf}
-use Rattle.mk_rules.specs.Transcript.{OfCommand, IsAllowedFor, after}
-use Rattle.mk_answers.specs.Open.{holding_of}
+use Rattle.mk_rules.specs.Transcript.{OfCommand, after}
 use Rattle.mk_record.specs.declared.users.Member.{Member}
 use Rattle.mk_record.specs.Journals.{JournalOf}
 use Rattle.mk_record.specs.Members.{names_of, quotes_of}
 use Rattle.mk_market.specs.Points.{IsPaidOff, AreAccounts, ArePaidBy, SettlementPaysOff}
 use Rattle.mk_record.specs.Refused.{CanBeSettled}
-use Rattle.mk_market.specs.inner.Keeping.{quoted, standing_of, TakesAsMuch, IsKept}
+use Rattle.mk_market.specs.inner.Keeping.{quoted, standing_of, AreHeld, TakesAsMuch, IsKept}
 use Rattle.mk_market.specs.inner.Paying.{ArePaid}
-use Rattle.mk_market.specs.inner.Quoting.{OwnsAt}
 use Rattle.mk_record.proofs.Appends.{there, not_found}
 use Rattle.mk_market.proofs.Growing.{kept_grown}
 use Rattle.mk_market.proofs.Owned.{holding_same}
-use Rattle.mk_market.proofs.Replies.{answer_allowed}
 use Rattle.mk_market.proofs.Weaker.{cash_when}
 
 settled_now : (H : List Entry) (paid : List (ℕ × ℕ)) → is_settled (H ++ Settles paid ∷ []) ≡ false → ⊥
@@ -190,10 +187,10 @@ module _ {P A Plan : Type 0} (weights_stand : P → Meaning → Type 0) (gains_s
   -- the market is kept
   pub settlement_kept : IsSettledAt (market_of file) journal.history reply → HasUnits reply
       → (new_ledger : LedgerOf) (left : Option (List Payment)) (till_left : Option TillOf) → TakesAsMuch journal new_journal → names_of new_members ≡ names_of members
-      → ((u : ℕ) (h : Holding) → OwnsAt gains_stand members u h → OwnsAt gains_stand new_members u h)
+      → AreHeld gains_stand file.net file.tree journal.history new_members
       → ArePaid ledger.accounts new_ledger.accounts paid → new_ledger.room ≡ ledger.room
       → IsKept weights_stand gains_stand plan_for file prices rows plan new_members new_ledger new_journal left till_left
-  settlement_kept agrees units new_ledger left till_left limits names still entered same_room =
+  settlement_kept agrees units new_ledger left till_left limits names held entered same_room =
       let H = journal.history in
       let e = Settles paid in
       kept_grown weights_stand gains_stand plan_for file prices prices rows rows plan members new_members ledger new_ledger journal new_journal payments left till till_left
@@ -204,7 +201,7 @@ module _ {P A Plan : Type 0} (weights_stand : P → Meaning → Type 0) (gains_s
         prices_grown = λ m stands. stands;
         rows_grown = λ m stands. stands;
         names = names ∙ kept.named ∙ sym (not_found H e join_in refl);
-        owned = λ u assets at. subst (Owns gains_stand assets) (sym (holding_same file.net file.tree H e u refl refl refl)) (still u (holding_of file.net file.tree H u) (kept.owns u) assets at);
+        held = λ u assets at. subst (Holds gains_stand assets) (sym (holding_same file.net file.tree H e u refl refl refl)) (held u assets at);
         none_quoted = λ u quote at. subst (λ (qs : List (Option LastQuote)). slice_get qs u ≡ Some (Some quote)) same_quotes at;
         accounts = accounts_settled (market_of file) H ledger.accounts new_ledger.accounts paid can.unsettled kept.accounts_kept entered;
         ledger_room = same_room ∙ kept.ledger_room;

@@ -19,7 +19,6 @@ use Rattle.mk_file.specs.declared.market_file.MarketFile.{MarketFile}
 use Rattle.mk_file.specs.MarketOf.{market_of}
 use Rattle.mk_engine.specs.Meaning.{Meaning}
 use Rattle.mk_beliefs.specs.Meanings.{weights_of}
-use Rattle.mk_assets.specs.Holdings.{Holding}
 use Rattle.mk_cash.specs.Accounts.{LedgerOf}
 use Rattle.mk_command.specs.declared.command.Command.TheVariants.{Bounds, Spread}
 use Rattle.mk_quote.specs.declared.spread_quote.SpreadQuote.{SpreadQuote}
@@ -32,7 +31,7 @@ use Rattle.mk_reply.specs.declared.reply.Reply.TheVariants.{Refused}
 use Rattle.mk_rules.specs.Refusals.{spread_named, unknown, refusals_by_record, first_refusal, pair_with, impossible_together, sure_value, impossible_share, missing_share}
 use Rattle.mk_rules.proofs.Spreadable.{as_many_shares}
 use Rattle.mk_rules.proofs.Unrefused.{none_applies}
-use Rattle.mk_answers.specs.Open.{IsOpen, holding_of}
+use Rattle.mk_answers.specs.Open.{IsOpen}
 use Rattle.mk_record.specs.declared.last_quote.LastQuote.{LastQuote}
 use Rattle.mk_record.specs.declared.last_quote.LastQuote.TheVariants.{Bounds as LastBounds}
 use Rattle.mk_market.specs.declared.possible.SpreadDecided.{SpreadDecided}
@@ -44,8 +43,8 @@ use Rattle.mk_record.specs.Journals.{JournalOf}
 use Rattle.mk_record.specs.Members.{names_of, quotes_of}
 use Rattle.mk_record.specs.Refused.{IsUser, IsSpreadQuestionFor}
 use Rattle.mk_market.specs.Trading.{Trading, IsAnswered}
-use Rattle.mk_market.specs.inner.Keeping.{quoted, AreKeptQuotes, IsKept}
-use Rattle.mk_market.specs.inner.Quoting.{OwnsAt, IsSpreadQuoteOf, IsTurnedDown}
+use Rattle.mk_market.specs.inner.Keeping.{quoted, AreHeld, AreKeptQuotes, IsKept}
+use Rattle.mk_market.specs.inner.Quoting.{IsSpreadQuoteOf, IsTurnedDown}
 use Rattle.mk_market.specs.inner.Stopped.{IsSpreadDecidedBy, IsRefusedFor, MayStop, CanRefuseSpread}
 use Rattle.mk_market.proofs.Growing.{is_open}
 use Rattle.mk_market.proofs.Quotes.{trading, kept_quoted}
@@ -147,7 +146,7 @@ module _ {P A Plan : Type 0} (weights_stand : P → Meaning → Type 0) (gains_s
   pub record AreBeside : Type 0 where
     pub prices_beside : (m : Meaning) → weights_stand prices m → weights_stand new_prices m
     pub names_beside : names_of new_members ≡ names_of members
-    pub assets_beside : (u : ℕ) (h : Holding) → OwnsAt gains_stand members u h → OwnsAt gains_stand new_members u h
+    pub held_beside : AreHeld gains_stand file.net file.tree journal.history new_members
 
   pub kept_beside : AreBeside → quotes_of new_members ≡ quotes_of members → IsKept weights_stand gains_stand plan_for file new_prices rows plan new_members ledger journal payments till
   kept_beside are same = record {
@@ -157,7 +156,7 @@ module _ {P A Plan : Type 0} (weights_stand : P → Meaning → Type 0) (gains_s
     prices_stand = are.prices_beside (weights_of file.net file.tree journal.history) kept.prices_stand;
     rows_stand = kept.rows_stand;
     named = are.names_beside ∙ kept.named;
-    owns = λ u. are.assets_beside u (holding_of file.net file.tree journal.history u) (kept.owns u);
+    held = are.held_beside;
     quotes_kept = subst (AreKeptQuotes file.net file.tree journal.history) (sym same) kept.quotes_kept;
     accounts_kept = kept.accounts_kept;
     ledger_room = kept.ledger_room;
@@ -286,4 +285,4 @@ module _ {P A Plan : Type 0} (weights_stand : P → Meaning → Type 0) (gains_s
       stopped_kept (stopped.Outside box) found down is are =
           kept_quoted weights_stand gains_stand plan_for file prices new_prices rows plan members new_members ledger journal payments till kept user (LastBounds down.quote)
           (kept_quote file.net file.tree journal.history user spread down.quote down.judge.its)
-          (record { names = are.names_beside; quotes = down.quotes_left; assets = are.assets_beside }) are.prices_beside
+          (record { names = are.names_beside; quotes = down.quotes_left; held = are.held_beside }) are.prices_beside

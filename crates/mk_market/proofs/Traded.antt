@@ -24,7 +24,7 @@ use Rattle.mk_engine.specs.Beliefs.{CanMultiply}
 use Rattle.mk_beliefs.specs.Meanings.{weights_of, gains_of}
 use Rattle.mk_beliefs.proofs.Grown.{weights_grow, factors_are_few}
 use Rattle.mk_assets.specs.declared.assets.Assets.{Assets}
-use Rattle.mk_assets.specs.Holdings.{Holding, Owns, CanTrade, with_trade}
+use Rattle.mk_assets.specs.Holdings.{Holding, Holds, CanTrade, with_trade}
 use Rattle.mk_answers.specs.Open.{holding_of}
 use Rattle.mk_market.proofs.Owned.{holding_grows, holding_same}
 
@@ -101,11 +101,11 @@ module _ (network : List Variable) (tree : GivenTree) (H : List Entry) (legal : 
           let one = length_push (weights_of network tree H).factors (RatioOf ratio) in
           omega (arith, all, same, one)
 
-  pub can_trade : {E Plan : Type 0} (stands_for : E → Meaning → Type 0) (assets : Assets E Plan) → Owns stands_for assets (holding_of network tree H user)
+  pub can_trade : {E Plan : Type 0} (stands_for : E → Meaning → Type 0) (assets : Assets E Plan) → Holds stands_for assets (holding_of network tree H user)
       → CanTrade stands_for assets ratio
-  can_trade stands_for assets owns = record {
+  can_trade stands_for assets holds = record {
     holding = holding_of network tree H user;
-    owns = owns;
+    holds = holds;
     in_range = fits;
     room = room;
   }

@@ -23,7 +23,7 @@ use Rattle.mk_rules.specs.Answers.{IsShort, IsWithdrawal}
 use Rattle.mk_answers.specs.Open.{IsOpen, IsFactorFor, holding_of}
 use Rattle.mk_engine.specs.Meaning.{Meaning}
 use Rattle.mk_assets.specs.declared.assets.Assets.{Assets}
-use Rattle.mk_assets.specs.Holdings.{Holding, Owns, CanWithdraw, max_bits, with_withdrawal}
+use Rattle.mk_assets.specs.Holdings.{Holding, Holds, Owns, CanWithdraw, max_bits, with_withdrawal}
 use Rattle.mk_cash.specs.Accounts.{account_of, LedgerOf}
 use Rattle.mk_record.specs.declared.last_quote.LastQuote.{LastQuote}
 use Rattle.mk_command.specs.declared.command.Command.TheVariants.{Withdraw}
@@ -39,9 +39,11 @@ use Rattle.mk_record.specs.Members.{assets_of, quotes_of, with_assets}
 use Rattle.mk_market.specs.Points.{IsAccount, ArePaidBy}
 use Rattle.mk_record.specs.Refused.{IsUser, HasRoomForTransfer}
 use Rattle.mk_market.specs.inner.Keeping.{quoted, standing_of, IsKept, TakesAsMuch}
+use Rattle.mk_market.specs.inner.Quoting.{OwnsAt}
 use Rattle.mk_record.proofs.Appends.{not_there, not_found}
 use Rattle.mk_market.proofs.Growing.{is_open, kept_grown}
-use Rattle.mk_market.proofs.Owned.{names_same, quotes_same, owned_one, withdrawal_holding, withdrawal_others, few_moved}
+use Rattle.mk_market.proofs.Learnt.{holds_still}
+use Rattle.mk_market.proofs.Owned.{names_same, quotes_same, held_one, withdrawal_holding, withdrawal_others, few_moved}
 use Rattle.mk_market.proofs.Accounted.{paid_set, accounts_withdrawn}
 use Rattle.mk_market.proofs.Replies.{answer_allowed, none_appended, unsettled}
 use Rattle.mk_market.proofs.Weaker.{most_when}
@@ -73,10 +75,14 @@ module _ {P A Plan : Type 0} (weights_stand : P → Meaning → Type 0) (gains_s
       (omega (arith, is_user.within, kept.accounts_kept.one_each)) refl u
 
   module _ (before mid : Assets A Plan) (there : slice_get (assets_of members) user ≡ Some before) (still : (h : Holding) → Owns gains_stand before h → Owns gains_stand mid h) where
-    pub can_withdraw : CanWithdraw gains_stand mid bits
-    can_withdraw = record { holding = holding_of file.net file.tree journal.history user; owns = still (holding_of file.net file.tree journal.history user) (kept.owns user before there); room = bits_fit }
+    -- assets that were asked are those that they were
+    held_still : Holds gains_stand before (holding_of file.net file.tree journal.history user) → Holds gains_stand mid (holding_of file.net file.tree journal.history user)
+    held_still = holds_still gains_stand before mid still (holding_of file.net file.tree journal.history user)
 
-    module _ (factor : Factor) (most : ℕ) (none : None ≡ first_refusal (market_of file) journal.history (Withdraw name bits))
+    pub can_withdraw : CanWithdraw gains_stand mid bits
+    can_withdraw = record { holding = holding_of file.net file.tree journal.history user; holds = held_still (kept.held user before there); room = bits_fit }
+
+    module _ (learnt : OwnsAt gains_stand members user (holding_of file.net file.tree journal.history user)) (factor : Factor) (most : ℕ) (none : None ≡ first_refusal (market_of file) journal.history (Withdraw name bits))
         (found : (network : List Variable) (tree : GivenTree) (H : List Entry) (u g : ℕ) → Owns gains_stand before (holding_of network tree H u) → IsOpen network tree H
         → least_gain network H u always ≡ Some g → IsFactorFor factor (IsSmall network H) (factor_with H u g)) where
       has_least : HasLeast file.net journal.history user
@@ -88,7 +94,7 @@ module _ {P A Plan : Type 0} (weights_stand : P → Meaning → Type 0) (gains_s
 
       worth_for : IsFactorFor factor (IsSmall file.net journal.history) worth
       unfolding worth
-      worth_for = found file.net file.tree journal.history user has_least.least (kept.owns user before there)
+      worth_for = found file.net file.tree journal.history user has_least.least (learnt before there)
           (is_open weights_stand gains_stand plan_for file prices rows plan members ledger journal payments till kept) has_least.is_least
 
       answered : (reply : Reply)
@@ -126,7 +132,7 @@ module _ {P A Plan : Type 0} (weights_stand : P → Meaning → Type 0) (gains_s
             most = most;
             less = less;
             is_most = most_when small small idle (Encloses factor.gain 1) (λ s. s)
-                (one_gain file.net file.tree journal.history user (kept.owns user before there)
+                (one_gain file.net file.tree journal.history user (learnt before there)
                 opened) worth most
                 (is_most file.net journal.history worth worth_for
                 (has_least.safe sound).at_least_one);
@@ -175,7 +181,7 @@ module _ {P A Plan : Type 0} (weights_stand : P → Meaning → Type 0) (gains_s
           (history ∙ ap (λ (v : ℕ). journal.history ++ Withdraws v bits ∷ []) is_user.number) same_quotes
 
       pub withdrawal_kept : TakesAsMuch journal new_journal
-          → ((h : Holding) → Owns gains_stand mid h → h.withdrawn + bits ≤ max_bits → Owns gains_stand now (with_withdrawal bits h))
+          → ((h : Holding) → Holds gains_stand mid h → h.withdrawn + bits ≤ max_bits → Holds gains_stand now (with_withdrawal bits h))
           → new_ledger ≡ record ledger { accounts = slice_set ledger.accounts user (let account = account_of ledger.accounts user in record account { withdrawn = account.withdrawn + file.points_per_bit * bits }) }
           → IsKept weights_stand gains_stand plan_for file prices rows plan (with_assets members user now) new_ledger new_journal payments till
       unfolding reply
@@ -189,9 +195,9 @@ module _ {P A Plan : Type 0} (weights_stand : P → Meaning → Type 0) (gains_s
             prices_grown = λ m stands. stands;
             rows_grown = λ m stands. stands;
             names = names_same members user before now there ∙ kept.named ∙ sym (not_found H (Withdraws user bits) Rattle.mk_exact.specs.History.join_in refl);
-            owned = owned_one file.net file.tree H gains_stand members user before now (Withdraws user bits) there kept.owns
-                (subst (Owns gains_stand now) (sym (withdrawal_holding file.net file.tree H user bits))
-                (withdraws (holding_of file.net file.tree H user) (still (holding_of file.net file.tree H user) (kept.owns user before there)) bits_fit))
+            held = held_one file.net file.tree H gains_stand members user before now (Withdraws user bits) there kept.held
+                (subst (Holds gains_stand now) (sym (withdrawal_holding file.net file.tree H user bits))
+                (withdraws (holding_of file.net file.tree H user) (held_still (kept.held user before there)) bits_fit))
                 (withdrawal_others file.net file.tree H user bits);
             none_quoted = λ u quote at. subst (λ (qs : List (Option LastQuote)). slice_get qs u ≡ Some (Some quote)) same_quotes at;
             accounts = rw paid (accounts_withdrawn (market_of file) H (unsettled (market_of file) H (Withdraw name bits) none) ledger.accounts user bits (file.points_per_bit * bits) is_user.within refl kept.accounts_kept);

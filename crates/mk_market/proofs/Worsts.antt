@@ -34,7 +34,9 @@ use Rattle.mk_record.specs.Journals.{JournalOf}
 use Rattle.mk_record.specs.Members.{assets_of, with_assets}
 use Rattle.mk_record.specs.Refused.{IsUser}
 use Rattle.mk_market.specs.inner.Keeping.{quoted, standing_of, IsKept}
+use Rattle.mk_market.specs.inner.Quoting.{OwnsAt}
 use Rattle.mk_market.proofs.Growing.{is_open, kept_still}
+use Rattle.mk_market.proofs.Learnt.{holds_still}
 use Rattle.mk_market.proofs.Owned.{names_same, quotes_same, all_still}
 use Rattle.mk_market.proofs.Replies.{answer_allowed, none_appended}
 use Rattle.mk_market.proofs.Weaker.{cash_when}
@@ -48,20 +50,20 @@ module _ {P A Plan : Type 0} (weights_stand : P → Meaning → Type 0) (gains_s
 
   -- a user
   module _ (name : List ℕ) (user : ℕ) (is_user : IsUser journal.history name user) (before now : Assets A Plan) (there : slice_get (assets_of members) user ≡ Some before) where
-    pub can_find : CanFindWorst gains_stand before
-    can_find = record {
+    pub can_find : OwnsAt gains_stand members user (holding_of file.net file.tree journal.history user) → CanFindWorst gains_stand before
+    can_find learnt = record {
       network = file.net;
       tree = file.tree;
       history = journal.history;
       user = user;
-      owns = kept.owns user before there;
+      owns = learnt before there;
       is_open = opened;
     }
 
     has_least : HasLeast file.net journal.history user
     has_least = least_gain_exists file.net journal.history user kept.legal kept.safe.proper
 
-    pub worst_allowed : (factor : Factor) (low high : ℕ) → IsSound file.net journal.history → None ≡ first_refusal (market_of file) journal.history (Worst name)
+    pub worst_allowed : OwnsAt gains_stand members user (holding_of file.net file.tree journal.history user) → (factor : Factor) (low high : ℕ) → IsSound file.net journal.history → None ≡ first_refusal (market_of file) journal.history (Worst name)
         → ((network : List Variable) (tree : GivenTree) (H : List Entry) (u g : ℕ) → Owns gains_stand before (holding_of network tree H u) → IsOpen network tree H
         → least_gain network H u always ≡ Some g → IsFactorFor factor (IsSmall network H) (factor_with H u g))
         → ((network : List Variable) (tree : GivenTree) (H : List Entry) (u : ℕ)
@@ -71,9 +73,9 @@ module _ {P A Plan : Type 0} (weights_stand : P → Meaning → Type 0) (gains_s
         → IsAtLeastOne q
         → CoversCash (IsExact factor.gain) (Encloses factor.gain 1) q file.points_per_bit low high)
         → IsAllowedFor (market_of file) (standing_of journal members) (OfCommand (Worst name)) (Worsted low high)
-    worst_allowed factor low high sound none found one_gain covers =
+    worst_allowed learnt factor low high sound none found one_gain covers =
         let least = has_least in let H = journal.history in
-        let is = found file.net file.tree H user least.least (kept.owns user before there) opened least.is_least in
+        let is = found file.net file.tree H user least.least (learnt before there) opened least.is_least in
         let q = factor_with H user least.least in
         let worst : IsWorst (IsSmall file.net H) (HoldsNoTrade H user) q file.points_per_bit
         (Worsted low high)
@@ -83,7 +85,7 @@ module _ {P A Plan : Type 0} (weights_stand : P → Meaning → Type 0) (gains_s
           printed = refl;
           covers = cash_when (IsSmall file.net H) (IsExact factor.gain) (HoldsNoTrade H user)
               (Encloses factor.gain 1) is.exact
-              (one_gain file.net file.tree H user (kept.owns user before there) opened) q
+              (one_gain file.net file.tree H user (learnt before there) opened) q
               file.points_per_bit low high (covers q is.stands is.graded
               (least.safe sound).at_least_one);
         } in
@@ -107,5 +109,5 @@ module _ {P A Plan : Type 0} (weights_stand : P → Meaning → Type 0) (gains_s
           prices_still = λ m stands. stands;
           names_still = names_same members user before now there;
           quotes_still = quotes_same members user before now there;
-          owned_still = all_still members user before now there gains_stand still;
+          held_still = all_still members user before now there gains_stand (holds_still gains_stand before now still);
         })

@@ -126,7 +126,7 @@ ghost use Rattle.mk_record.specs.Entries.{addition_of};
 ghost use Rattle.mk_replay.specs.Placed.{IsPlaced};
 ghost use Rattle.mk_rules.specs.Additions as rules;
 ghost use Rattle.mk_market.specs.Suited.{SuitsLonger};
-ghost use Rattle.mk_market.specs.inner.Adding.{CanFollow, CanRegrow, IsLonger, OwnEach, AreRegrown};
+ghost use Rattle.mk_market.specs.inner.Adding.{CanFollow, CanRegrow, IsLonger, HoldEach, AreRegrown};
 
 /// The most cliques of a tree: those of a file, and one for each question that is added.
 const MAX_CLIQUES: u32 = 511;
@@ -220,7 +220,7 @@ fn assets_of_each<A: Engine<MinProd>>(
     requires few { (u : ℕ) → deposited journal.now.history u ≤ max_bits
         × withdrawn journal.now.history u ≤ max_bits }
     ensures count { IfOk result (λ all. length all.items ≡ joined) }
-    ensures own { IfOk result (λ all. OwnEach A.stands_for file.now journal.now.history all.items) }
+    ensures held { IfOk result (λ all. HoldEach A.stands_for file.now journal.now.history all.items) }
 {
     let mut all = Vec::new(alloc);
     for user in 0..joined {

@@ -31,9 +31,7 @@ impl<P: Engine<SumProd>, A: Engine<MinProd>> Market<P, A> {
             (λ at. reply.Joined name.now at) }
     {
         refuse_user(&self.journal, &self.users, name)?;
-        let known = self.journal.known();
-        let Ok(assets) = Assets::start(alloc, &self.plan, &self.file.net, &self.file.tree, known)
-        else {
+        let Ok(assets) = Assets::start(alloc, &self.plan, &self.file.net) else {
             return Err(Refusal::Memory);
         };
         let Ok(()) = self.users.join(*name, assets) else {

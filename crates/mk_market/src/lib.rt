@@ -6,6 +6,7 @@ mod answering;
 mod editing;
 mod joining;
 mod laws;
+mod learning;
 mod market;
 mod opening;
 mod paying;
@@ -27,6 +28,7 @@ mod withdrawing;
 mod wording;
 
 pub use laws::{safe_has_homes, settlement_pays_off};
+pub use learning::learn;
 pub use market::Market;
 pub use mk_record::Entry;
 pub use possible::{

@@ -1,5 +1,6 @@
 //! What a question is worth, what a user is worth at least, and what the operator can lose at most.
 
+use crate::learning::learn;
 use crate::market::Market;
 use crate::possible::refuse_condition;
 use mk_answers::{bound_of, least_of, price_of};
@@ -72,6 +73,7 @@ impl<P: Engine<SumProd>, A: Engine<MinProd>> Market<P, A> {
             result (λ ends. reply.Worst ends.0 ends.1) }
     {
         let user = refuse_worst(&self.journal, &self.users, name)?;
+        learn(&mut self.users, &self.file, &self.journal, user);
         let factor = least_of(self.users.assets(user));
         Ok(cash(&factor, self.file.points_per_bit))
     }

@@ -5,15 +5,15 @@ ghost use Rattle.mk_net.specs.Events.{pairs_asked};
 ghost use Rattle.mk_exact.specs.History.{revision};
 ghost use Rattle.mk_tree.specs.Given.{home};
 ghost use Rattle.mk_engine.specs.Meaning.{Meaning};
-ghost use Rattle.mk_assets.specs.Holdings.{Holding};
 ghost use Rattle.mk_quote.specs.declared.quote.Quote.{Quote as Held};
 ghost use Rattle.mk_quote.specs.Quotes.{IsFor};
 ghost use Rattle.mk_answers.specs.Open.{CanBeAnswered};
 ghost use Rattle.mk_record.specs.Members.{names_of, quotes_of};
-ghost use Rattle.mk_market.specs.inner.Keeping.{AreKeptQuotes};
-ghost use Rattle.mk_market.specs.inner.Quoting.{OwnsAt, AreInUse, IsQuoteOf};
+ghost use Rattle.mk_market.specs.inner.Keeping.{AreHeld, AreKeptQuotes};
+ghost use Rattle.mk_market.specs.inner.Quoting.{AreInUse, IsQuoteOf};
 ghost use Rattle.mk_market.specs.inner.Stopped.{IsDecidedBy};
 
+use crate::learning::learn;
 use crate::possible::Decided;
 use mk_answers::{Sides, bounds_of};
 use mk_engine::Engine;
@@ -23,8 +23,8 @@ use mk_quote::Quote;
 use mk_record::{Journal, LastQuote, Request, Users};
 use mk_semiring::{MinProd, SumProd};
 
-/// A quote of a question for a user at the present revision, made anew, or what decides the question. The engine and the assets
-/// stand for what they stood for.
+/// A quote of a question for a user at the present revision, made anew, or what decides the question. The engine stands for what
+/// it stood for, and the user's assets learn what is known.
 pub(crate) fn fresh_quote<P: Engine<SumProd>, A: Engine<MinProd>>(
     file: &MarketFile,
     prices: &mut P,
@@ -38,7 +38,7 @@ pub(crate) fn fresh_quote<P: Engine<SumProd>, A: Engine<MinProd>>(
         request.now.question }
     requires home { home file.now.tree (pairs_asked request.now.question) ≡ Some request.now.home }
     ensures prices { (m : Meaning) → P.stands_for prices.old m → P.stands_for prices.new m }
-    ensures assets { (u : ℕ) (h : Holding) → OwnsAt A.stands_for users.old u h → OwnsAt A.stands_for users.new u h }
+    ensures held { AreHeld A.stands_for file.now.net file.now.tree journal.now.history users.new }
     ensures names { names_of users.new ≡ names_of users.old }
     ensures quotes { quotes_of users.new ≡ quotes_of users.old }
     ensures quote { MatchResult result (λ quote. IsQuoteOf file.now.net file.now.tree
@@ -50,6 +50,7 @@ pub(crate) fn fresh_quote<P: Engine<SumProd>, A: Engine<MinProd>>(
         question,
         home,
     } = *request;
+    learn(users, file, journal, user);
     match bounds_of(prices, users.assets(user), &file.net, home, &question) {
         Sides::Open(bounds) => Ok(Quote::make(user, question, journal.revision(), &bounds)),
         Sides::Impossible => Err(Decided::Impossible),
@@ -77,7 +78,7 @@ pub(crate) fn last_quote<A: Engine<MinProd>>(
 }
 
 /// A quote of a question for a user at the present revision: the user's last one where it is, or one made anew, or what decides the
-/// question. The engine and the assets stand for what they stood for.
+/// question. The engine stands for what it stood for, and a user for whom a quote is made anew learns what is known.
 pub(crate) fn present_quote<P: Engine<SumProd>, A: Engine<MinProd>>(
     file: &MarketFile,
     prices: &mut P,
@@ -92,7 +93,7 @@ pub(crate) fn present_quote<P: Engine<SumProd>, A: Engine<MinProd>>(
         request.now.question }
     requires home { home file.now.tree (pairs_asked request.now.question) ≡ Some request.now.home }
     ensures prices { (m : Meaning) → P.stands_for prices.old m → P.stands_for prices.new m }
-    ensures assets { (u : ℕ) (h : Holding) → OwnsAt A.stands_for users.old u h → OwnsAt A.stands_for users.new u h }
+    ensures held { AreHeld A.stands_for file.now.net file.now.tree journal.now.history users.new }
     ensures names { names_of users.new ≡ names_of users.old }
     ensures quotes { quotes_of users.new ≡ quotes_of users.old }
     ensures quote { MatchResult result (λ quote. IsQuoteOf file.now.net file.now.tree

@@ -2,7 +2,7 @@
 
 use crate::market::Market;
 use crate::possible::can_come;
-use crate::resolving::{home_of, tell};
+use crate::resolving::home_of;
 use crate::stored::{tells_deposit, tells_join, tells_resolution, tells_withdrawal};
 use mk_assets::Assets;
 use mk_command::CommandRef;
@@ -141,9 +141,7 @@ impl<P: Engine<SumProd>, A: Engine<MinProd>> Market<P, A> {
             return Err(RestoreFault::Unfit);
         }
         refuse_user(&self.journal, &self.users, name)?;
-        let known = self.journal.known();
-        let Ok(assets) = Assets::start(alloc, &self.plan, &self.file.net, &self.file.tree, known)
-        else {
+        let Ok(assets) = Assets::start(alloc, &self.plan, &self.file.net) else {
             return Err(RestoreFault::Memory);
         };
         let Ok(()) = self.users.join(*name, assets) else {
@@ -204,7 +202,6 @@ impl<P: Engine<SumProd>, A: Engine<MinProd>> Market<P, A> {
         }
         self.prices.know(home, pair);
         self.rows.know(home, pair);
-        tell(&mut self.users, home, pair);
         self.journal.resolve(pair);
         Ok(())
     }

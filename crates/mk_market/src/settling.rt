@@ -1,5 +1,6 @@
 //! The settlement.
 
+use crate::learning::learn;
 use crate::market::Market;
 use mk_answers::least_of;
 use mk_cash::{Ledger, cash};
@@ -106,17 +107,16 @@ ghost use Rattle.mk_exact.specs.History.{is_settled, users as users_of, payment_
 ghost use Rattle.mk_exact.specs.ByRule.{payments_by_rule};
 ghost use Rattle.mk_exact.specs.Sound.{IsSound};
 ghost use Rattle.mk_exact.specs.Weight.{possible_states};
-ghost use Rattle.mk_assets.specs.Holdings.{Holding};
 ghost use Rattle.mk_cash.specs.Accounts.{account_of};
 ghost use Rattle.mk_file.specs.MarketOf.{market_of};
 ghost use Rattle.mk_reply.specs.declared.payments.Payment.{Payment as Told};
 ghost use Rattle.mk_rules.specs.Answers.{IsPayment, ends_of};
 ghost use Rattle.mk_restore.specs.Laws.{IsSafe};
-ghost use Rattle.mk_answers.specs.Open.{IsOpen, holding_of};
+ghost use Rattle.mk_answers.specs.Open.{IsOpen};
 ghost use Rattle.mk_record.specs.Entries.{ends};
 ghost use Rattle.mk_record.specs.Members.{names_of, quotes_of};
 ghost use Rattle.mk_record.specs.Refused.{CanBeSettled};
-ghost use Rattle.mk_market.specs.inner.Quoting.{OwnsAt};
+ghost use Rattle.mk_market.specs.inner.Keeping.{AreHeld};
 ghost use Rattle.mk_market.specs.inner.Paying.{ArePaid};
 
 /// The payment to each user, in the order of joining.
@@ -127,10 +127,10 @@ fn pay<A: Engine<MinProd>>(
     payments: &mut Payments,
 )
     requires is_open { IsOpen file.now.net file.now.tree journal.now.history }
-    requires owns { (u : ℕ) → OwnsAt A.stands_for users.old u (holding_of file.now.net file.now.tree journal.now.history u) }
+    requires held { AreHeld A.stands_for file.now.net file.now.tree journal.now.history users.old }
     requires few { length users.old ≤ 256 }
     requires unpaid { payments.old ≡ [] }
-    ensures assets { (u : ℕ) (h : Holding) → OwnsAt A.stands_for users.old u h → OwnsAt A.stands_for users.new u h }
+    ensures held { AreHeld A.stands_for file.now.net file.now.tree journal.now.history users.new }
     ensures names { names_of users.new ≡ names_of users.old }
     ensures quotes { quotes_of users.new ≡ quotes_of users.old }
     ensures in_order { map (λ p. p.user) payments.new ≡ names_of users.old }
@@ -147,7 +147,8 @@ fn pay<A: Engine<MinProd>>(
     }
 }
 
-/// What a user is paid: the low end of what the least factor over all possible states is worth.
+/// What a user is paid, who learns what is known: the low end of what the least factor over all
+/// possible states is worth.
 fn payment_of<A: Engine<MinProd>>(
     file: &MarketFile,
     journal: &Journal,
@@ -155,9 +156,9 @@ fn payment_of<A: Engine<MinProd>>(
     user: u32,
 ) -> Payment
     requires is_open { IsOpen file.now.net file.now.tree journal.now.history }
-    requires owns { (u : ℕ) → OwnsAt A.stands_for users.old u (holding_of file.now.net file.now.tree journal.now.history u) }
+    requires held { AreHeld A.stands_for file.now.net file.now.tree journal.now.history users.old }
     requires user { user < length users.old }
-    ensures assets { (u : ℕ) (h : Holding) → OwnsAt A.stands_for users.old u h → OwnsAt A.stands_for users.new u h }
+    ensures held { AreHeld A.stands_for file.now.net file.now.tree journal.now.history users.new }
     ensures names { names_of users.new ≡ names_of users.old }
     ensures quotes { quotes_of users.new ≡ quotes_of users.old }
     ensures user { slice_get (names_of users.old) user ≡ Some result.user }
@@ -171,6 +172,7 @@ fn payment_of<A: Engine<MinProd>>(
     ensures low_fits { result.low < number_limit }
     ensures high_fits { result.high < number_limit }
 {
+    learn(users, file, journal, user);
     let factor = least_of(users.assets(user));
     let (low, high) = cash(&factor, file.points_per_bit);
     Payment {

@@ -7,16 +7,16 @@ ghost use Rattle.mk_net.specs.Network.{sizes};
 ghost use Rattle.mk_spread.specs.Spreads.{asked_of};
 ghost use Rattle.mk_tree.specs.Given.{home};
 ghost use Rattle.mk_engine.specs.Meaning.{Meaning};
-ghost use Rattle.mk_assets.specs.Holdings.{Holding};
 ghost use Rattle.mk_quote.specs.declared.spread_quote.SpreadQuote.{SpreadQuote as Held};
 ghost use Rattle.mk_quote.specs.Questions.{spread_in};
 ghost use Rattle.mk_quote.specs.Spreads.{sides_of, IsSpreadFor};
 ghost use Rattle.mk_answers.specs.Open.{CanBeSpreadHere};
 ghost use Rattle.mk_record.specs.Members.{names_of, quotes_of};
-ghost use Rattle.mk_market.specs.inner.Keeping.{AreKeptQuotes};
-ghost use Rattle.mk_market.specs.inner.Quoting.{OwnsAt, AreInUse, IsSpreadQuoteOf, IsInside, IsStopped, IsTaken, IsTurnedDown};
+ghost use Rattle.mk_market.specs.inner.Keeping.{AreHeld, AreKeptQuotes};
+ghost use Rattle.mk_market.specs.inner.Quoting.{AreInUse, IsSpreadQuoteOf, IsInside, IsStopped, IsTaken, IsTurnedDown};
 ghost use Rattle.mk_market.specs.inner.Stopped.{IsSpreadDecidedBy};
 
+use crate::learning::learn;
 use crate::possible::{SpreadDecided, Stopped};
 use arrayvec::ArrayVec;
 use mk_answers::{SpreadSides, spread_bounds_of};
@@ -26,8 +26,8 @@ use mk_quote::{SpreadQuestion, SpreadQuote};
 use mk_record::{Journal, LastQuote, SpreadRequest, Users};
 use mk_semiring::{MinProd, SumProd};
 
-/// A quote of a spread for a user at the present revision, made anew, or what decides the spread. The engine and the assets stand
-/// for what they stood for.
+/// A quote of a spread for a user at the present revision, made anew, or what decides the spread. The engine stands for what it
+/// stood for, and the user's assets learn what is known.
 pub(crate) fn fresh_spread_quote<P: Engine<SumProd>, A: Engine<MinProd>>(
     file: &MarketFile,
     prices: &mut P,
@@ -42,7 +42,7 @@ pub(crate) fn fresh_spread_quote<P: Engine<SumProd>, A: Engine<MinProd>>(
     requires home { home file.now.tree (pairs_asked (asked_of (spread_in request.now.question) 0)) ≡
         Some request.now.home }
     ensures prices { (m : Meaning) → P.stands_for prices.old m → P.stands_for prices.new m }
-    ensures assets { (u : ℕ) (h : Holding) → OwnsAt A.stands_for users.old u h → OwnsAt A.stands_for users.new u h }
+    ensures held { AreHeld A.stands_for file.now.net file.now.tree journal.now.history users.new }
     ensures names { names_of users.new ≡ names_of users.old }
     ensures quotes { quotes_of users.new ≡ quotes_of users.old }
     ensures quote { MatchResult result (λ quote. IsSpreadQuoteOf file.now.net file.now.tree
@@ -54,6 +54,7 @@ pub(crate) fn fresh_spread_quote<P: Engine<SumProd>, A: Engine<MinProd>>(
         question,
         home,
     } = *request;
+    learn(users, file, journal, user);
     match spread_bounds_of(prices, users.assets(user), &file.net, home, &question) {
         SpreadSides::Open(bounds) => Ok(SpreadQuote::make(
             user,
@@ -104,8 +105,8 @@ fn judged_by(quote: &SpreadQuote, shares: &[u32]) -> Result<ArrayVec<u64, 16>, S
 }
 
 /// Judges the shares of a spread by the user's last quote, where that is of this spread and of the present revision, and
-/// else by one made anew, which shares outside of its intervals leave as the last. The engine and the assets stand for what they
-/// stood for.
+/// else by one made anew, which shares outside of its intervals leave as the last. The engine stands for what it stood for, and a
+/// user for whom a quote is made anew learns what is known.
 pub(crate) fn judge_spread<P: Engine<SumProd>, A: Engine<MinProd>>(
     file: &MarketFile,
     prices: &mut P,
@@ -124,7 +125,7 @@ pub(crate) fn judge_spread<P: Engine<SumProd>, A: Engine<MinProd>>(
     requires one_each { length shares.now ≡ slice_index (sizes file.now.net)
         request.now.question.variable }
     ensures prices { (m : Meaning) → P.stands_for prices.old m → P.stands_for prices.new m }
-    ensures assets { (u : ℕ) (h : Holding) → OwnsAt A.stands_for users.old u h → OwnsAt A.stands_for users.new u h }
+    ensures held { AreHeld A.stands_for file.now.net file.now.tree journal.now.history users.new }
     ensures names { names_of users.new ≡ names_of users.old }
     ensures judged { MatchResult result
         (λ units. IsTaken file.now.net file.now.tree journal.now.history request.now.user (spread_in request.now.question) (quotes_of users.old) (quotes_of users.new) shares.now units.items)

@@ -1,5 +1,6 @@
 //! What a market tells of every value of a variable, and of itself.
 
+use crate::learning::learn;
 use crate::market::Market;
 use crate::possible::refuse_condition;
 use arrayvec::ArrayVec;
@@ -83,6 +84,7 @@ impl<P: Engine<SumProd>, A: Engine<MinProd>> Market<P, A> {
             variable,
             words,
         )?;
+        learn(&mut self.users, &self.file, &self.journal, request.user);
         match position_of(
             self.users.assets(request.user),
             &self.file.net,

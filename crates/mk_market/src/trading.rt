@@ -1,6 +1,6 @@
 //! Trades.
 
-ghost use Rattle.std.specs.Prelude.{◌≡◌, ◌≤◌, ◌++◌, ◌∷◌, [], ℕ, List, All, length};
+ghost use Rattle.std.specs.Prelude.{◌≡◌, ◌≤◌, ◌++◌, ◌∷◌, [], List, All, length};
 ghost use Rattle.mk_net.specs.Asked.{IsUnits};
 ghost use Rattle.mk_net.specs.Network.{Variable, IsNetwork};
 ghost use Rattle.mk_net.specs.Trades.{trade_ratio};
@@ -12,10 +12,9 @@ ghost use Rattle.mk_spread.specs.Spreads.{spread_ratio};
 ghost use Rattle.mk_tree.specs.Given.{GivenTree};
 ghost use Rattle.mk_engine.specs.Meaning.{Meaning, RatioOf, with_factor};
 ghost use Rattle.mk_quote.specs.Questions.{spread_in};
-ghost use Rattle.mk_answers.specs.Open.{holding_of};
 ghost use Rattle.mk_record.specs.Members.{names_of, quotes_of};
-ghost use Rattle.mk_market.specs.inner.Keeping.{TakesAsMuch};
-ghost use Rattle.mk_market.specs.inner.Quoting.{OwnsAt, CanBeMade};
+ghost use Rattle.mk_market.specs.inner.Keeping.{AreHeld, TakesAsMuch};
+ghost use Rattle.mk_market.specs.inner.Quoting.{CanBeMade};
 
 use arrayvec::ArrayVec;
 use mk_engine::Engine;
@@ -68,8 +67,8 @@ pub(crate) fn trade<P: Engine<SumProd>, A: Engine<MinProd>>(
     ensures history { journal.new.history ≡ journal.old.history ++ Trade user (trade_ratio ratio) ∷ [] }
     ensures limits { TakesAsMuch journal.old journal.new }
     ensures prices { (m : Meaning) → P.stands_for prices.old m → P.stands_for prices.new (with_factor (RatioOf (trade_ratio ratio)) m) }
-    ensures assets { (network : List Variable) (tree : GivenTree) → ((u : ℕ) → OwnsAt A.stands_for users.old u (holding_of network tree journal.old.history u))
-        → (u : ℕ) → OwnsAt A.stands_for users.new u (holding_of network tree (journal.old.history ++ Trade user (trade_ratio ratio) ∷ []) u) }
+    ensures held { (network : List Variable) (tree : GivenTree) → AreHeld A.stands_for network tree journal.old.history users.old
+        → AreHeld A.stands_for network tree (journal.old.history ++ Trade user (trade_ratio ratio) ∷ []) users.new }
     ensures names { names_of users.new ≡ names_of users.old }
     ensures quotes { quotes_of users.new ≡ quotes_of users.old }
 {

@@ -1,5 +1,6 @@
 //! Withdrawals.
 
+use crate::learning::learn;
 use crate::market::Market;
 use mk_answers::{least_of, most_bits};
 use mk_engine::Engine;
@@ -34,6 +35,7 @@ impl<P: Engine<SumProd>, A: Engine<MinProd>> Market<P, A> {
             result (λ at. reply.Withdrawn name.now bits at) }
     {
         let user = refuse_transfer(&self.journal, &self.users, name, bits)?;
+        learn(&mut self.users, &self.file, &self.journal, user);
         let assets = self.users.assets(user);
         let most = most_bits(&least_of(assets));
         if bits as u64 > most {

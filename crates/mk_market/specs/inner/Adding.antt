@@ -20,7 +20,7 @@ use Rattle.mk_file.specs.MarketOf.{market_of}
 use Rattle.mk_engine.specs.Meaning.{Meaning}
 use Rattle.mk_beliefs.specs.Meanings.{weights_of, rows_of}
 use Rattle.mk_assets.specs.declared.assets.Assets.{Assets}
-use Rattle.mk_assets.specs.Holdings.{Owns}
+use Rattle.mk_assets.specs.Holdings.{Holds}
 use Rattle.mk_addition.specs.Adds.{IsAddText}
 use Rattle.mk_addition.specs.declared.add.AddText.{AddText}
 use Rattle.mk_command.specs.declared.command.Command.TheVariants.{Add}
@@ -80,13 +80,13 @@ pub record CanRegrow (file : MarketFile) (journal : JournalOf) (joined : ℕ) (a
     pub one_each : joined ≡ length (users journal.history)
 
 -- each user's assets are those that a history leaves
-abbrev pub OwnEach : {A Plan : Type 0} → (A → Meaning → Type 0) → MarketFile → List Entry
+abbrev pub HoldEach : {A Plan : Type 0} → (A → Meaning → Type 0) → MarketFile → List Entry
     → List (Assets A Plan) → Type 0
-OwnEach {A} {Plan} gains_stand file H all = (u : ℕ) (assets : Assets A Plan)
-    → slice_get all u ≡ Some assets → Owns gains_stand assets (holding_of file.net file.tree H u)
+HoldEach {A} {Plan} gains_stand file H all = (u : ℕ) (assets : Assets A Plan)
+    → slice_get all u ≡ Some assets → Holds gains_stand assets (holding_of file.net file.tree H u)
 
--- the parts of a market with a question: engines, and assets of each user, that stand for the
--- history in the longer network and tree
+-- the parts of a market with a question: engines that stand for the history in the longer network
+-- and tree, and assets of each user that are those that it leaves
 module _ {P A E Plan : Type 0} (weights_stand : P → Meaning → Type 0)
     (gains_stand : A → Meaning → Type 0)
     (plan_for : Plan → List Variable → GivenTree → Type 0) where
@@ -98,7 +98,7 @@ module _ {P A E Plan : Type 0} (weights_stand : P → Meaning → Type 0)
     pub prices_stand : weights_stand parts.prices (weights_of parts.file.net parts.file.tree H)
     pub rows_stand : gains_stand parts.rows (rows_of parts.file.net parts.file.tree H)
     pub one_each : length parts.assets.items ≡ length (users H)
-    pub owned : OwnEach gains_stand parts.file H parts.assets.items
+    pub held : HoldEach gains_stand parts.file H parts.assets.items
 
 -- a market has the question, by the next change, and nothing was paid
 pub record HasGrown (old new : Trading) (add : AddText) : Type 0 where

@@ -13,7 +13,7 @@ use Rattle.mk_file.specs.MarketOf.{market_of}
 use Rattle.mk_engine.specs.Meaning.{Meaning}
 use Rattle.mk_beliefs.specs.Meanings.{weights_of, rows_of}
 use Rattle.mk_assets.specs.declared.assets.Assets.{Assets}
-use Rattle.mk_assets.specs.Holdings.{Owns}
+use Rattle.mk_assets.specs.Holdings.{Holding, Holds}
 use Rattle.mk_cash.specs.Accounts.{LedgerOf}
 use Rattle.mk_quote.specs.declared.quote.Quote.{Quote}
 use Rattle.mk_quote.specs.declared.spread_quote.SpreadQuote.{SpreadQuote}
@@ -79,6 +79,14 @@ pub record IsKeptQuote (network : List Variable) (tree : GivenTree) (H : List En
 abbrev pub AreKeptQuotes : List Variable → GivenTree → List Entry → List (Option LastQuote) → Type 0
 AreKeptQuotes network tree H quotes = (u : ℕ) (quote : LastQuote) → slice_get quotes u ≡ Some (Some quote) → IsKeptQuote network tree H u quote
 
+-- the assets of one user are those of a holding, and may not have learnt the last pairs that are known there
+abbrev pub HoldsAt : {A Plan : Type 0} → (A → Meaning → Type 0) → List (Member A Plan) → ℕ → Holding → Type 0
+HoldsAt {A} {Plan} gains_stand members u h = (assets : Assets A Plan) → slice_get (assets_of members) u ≡ Some assets → Holds gains_stand assets h
+
+-- each user's assets are those that a history leaves
+abbrev pub AreHeld : {A Plan : Type 0} → (A → Meaning → Type 0) → List Variable → GivenTree → List Entry → List (Member A Plan) → Type 0
+AreHeld gains_stand network tree H members = (u : ℕ) → HoldsAt gains_stand members u (holding_of network tree H u)
+
 -- a journal takes as many trades, users and transfers as another
 pub record TakesAsMuch (journal new_journal : JournalOf) : Type 0 where
   pub trades : new_journal.max_trades ≡ journal.max_trades
@@ -96,8 +104,7 @@ module _ {P A Plan : Type 0} (weights_stand : P → Meaning → Type 0) (gains_s
     pub prices_stand : weights_stand prices (weights_of file.net file.tree journal.history)
     pub rows_stand : gains_stand rows (rows_of file.net file.tree journal.history)
     pub named : names_of members ≡ users journal.history
-    pub owns : (u : ℕ) (assets : Assets A Plan) → slice_get (assets_of members) u ≡ Some assets
-        → Owns gains_stand assets (holding_of file.net file.tree journal.history u)
+    pub held : AreHeld gains_stand file.net file.tree journal.history members
     pub quotes_kept : AreKeptQuotes file.net file.tree journal.history (quotes_of members)
     pub accounts_kept : AreAccounts (market_of file) journal.history ledger.accounts
     pub ledger_room : ledger.room ≡ file.max_users

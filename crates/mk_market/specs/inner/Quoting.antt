@@ -1,11 +1,10 @@
 -- What a quote, and a trade by it, leave of the parts of a market.
-use Rattle.std.specs.Prelude.{◌≡◌, ℕ, ◌<◌, ◌≤◌, List, [], ◌∷◌, length, true, false, Option, Some}
+use Rattle.std.specs.Prelude.{◌≡◌, ℕ, ◌<◌, ◌≤◌, List, length, true, false, Option, Some}
 use Rattle.std.specs.Prelude.{None, slice_get, slice_set}
 use Rattle.arrayvec.specs.ArrayVec.{ArrayVec}
 use Rattle.mk_net.specs.Network.{Variable}
 use Rattle.mk_net.specs.Asked.{Asked, TradeRatio, ratio_pairs}
 use Rattle.mk_net.specs.Bounds.{max_market_trades}
-use Rattle.mk_net.specs.declared.words.Pair.{Pair}
 use Rattle.mk_exact.specs.History.{Entry, trades, revision}
 use Rattle.mk_states.specs.OfNetwork.{IsRatioOf}
 use Rattle.mk_spread.specs.Spreads.{SpreadAsked}
@@ -14,14 +13,14 @@ use Rattle.mk_tree.specs.Given.{GivenTree, home}
 use Rattle.mk_engine.specs.Meaning.{Meaning}
 use Rattle.mk_beliefs.specs.Meanings.{weights_of}
 use Rattle.mk_assets.specs.declared.assets.Assets.{Assets}
-use Rattle.mk_assets.specs.Holdings.{Holding, Owns, CanLearn}
+use Rattle.mk_assets.specs.Holdings.{Holding, Owns}
 use Rattle.mk_quote.specs.declared.quote.Quote.{Quote}
 use Rattle.mk_quote.specs.declared.spread_quote.SpreadQuote.{SpreadQuote}
 use Rattle.mk_quote.specs.Quotes.{user_of, question_of, revision_of}
 use Rattle.mk_quote.specs.Spreads as spreads
 use Rattle.mk_quote.specs.Values.{AreFairForEach, AreRightForEach, impossible_share_in, misses_share_in}
 use Rattle.mk_reply.specs.Refusals.{given_in}
-use Rattle.mk_answers.specs.Open.{IsOpen, holding_of}
+use Rattle.mk_answers.specs.Open.{IsOpen}
 use Rattle.mk_record.specs.declared.last_quote.LastQuote.{LastQuote}
 use Rattle.mk_record.specs.declared.last_quote.LastQuote.TheVariants.{Bounds}
 use Rattle.mk_record.specs.declared.users.Member.{Member}
@@ -30,19 +29,19 @@ use Rattle.mk_record.specs.Members.{assets_of}
 use Rattle.mk_market.specs.declared.possible.SpreadDecided.{SpreadDecided}
 use Rattle.mk_market.specs.declared.possible.Stopped.{Stopped}
 use Rattle.mk_market.specs.declared.possible.Stopped.TheVariants.{Decided, ImpossibleShare, MissingShare, Outside}
-use Rattle.mk_market.specs.inner.Keeping.{IsCurrent, IsSpreadCurrent}
+use Rattle.mk_market.specs.inner.Keeping.{AreHeld, IsCurrent, IsSpreadCurrent}
 use Rattle.mk_market.specs.inner.Stopped.{IsSpreadDecidedBy}
 
--- the assets of one user stand for a holding
+-- the assets of one user stand for a holding: they have learnt all pairs that are known there
 abbrev pub OwnsAt : {A Plan : Type 0} → (A → Meaning → Type 0) → List (Member A Plan) → ℕ → Holding → Type 0
 OwnsAt {A} {Plan} gains_stand members u h = (assets : Assets A Plan) → slice_get (assets_of members) u ≡ Some assets → Owns gains_stand assets h
 
--- the engine has the weights of a market in use, and each user's assets are theirs
+-- the engine has the weights of a market in use, and each user's assets are those that its history leaves
 pub record AreInUse {P A Plan : Type 0} (weights_stand : P → Meaning → Type 0) (gains_stand : A → Meaning → Type 0) (network : List Variable) (tree : GivenTree)
     (H : List Entry) (prices : P) (members : List (Member A Plan)) : Type 0 where
   pub is_open : IsOpen network tree H
   pub weights : weights_stand prices (weights_of network tree H)
-  pub owns : (u : ℕ) → OwnsAt gains_stand members u (holding_of network tree H u)
+  pub held : AreHeld gains_stand network tree H members
 
 -- a quote of this question for this user, made at the present revision, whose bounds enclose both sides
 pub record IsQuoteOf (network : List Variable) (tree : GivenTree) (H : List Entry) (u : ℕ) (asked : Asked) (quote : Quote) : Type 0 where
@@ -127,15 +126,3 @@ pub record CanBeMade {P A Plan : Type 0} (weights_stand : P → Meaning → Type
   pub at_home : home tree (ratio_pairs ratio) ≡ Some at
   pub room : length (trades journal.history) < journal.max_trades
   pub few : journal.max_trades ≤ max_market_trades
-
--- assets can learn a pair, which has this home
-pub record CanLearnAt {A Plan : Type 0} (gains_stand : A → Meaning
-    → Type 0) (assets : Assets A Plan) (at : ℕ) (pair : Pair) : Type 0 where
-  pub can_learn : CanLearn gains_stand assets pair
-  pub at_home : home can_learn.holding.meaning.tree (pair ∷ []) ≡ Some at
-
--- so can each user's
-abbrev pub CanBeTold : {A Plan : Type 0} → (A → Meaning → Type 0) → List (Member A Plan) → ℕ → Pair
-    → Type 0
-CanBeTold {A} {Plan} gains_stand members at pair = (u : ℕ) (assets : Assets A Plan)
-    → slice_get (assets_of members) u ≡ Some assets → CanLearnAt gains_stand assets at pair

@@ -44,5 +44,5 @@ returns g c =
       prices_stand = c.in_ok-prices.ensures;
       rows_stand = c.in_ok-rows.ensures c.args.journal.now.history (sym c.known-known.ensures.same);
       one_each = c.in_ok-assets.ensures.count ∙ c.requires.can.one_each;
-      owned = c.in_ok-assets.ensures.own;
+      held = c.in_ok-assets.ensures.held;
     }

@@ -4,11 +4,11 @@ use Rattle.mk_exact.specs.History.{revision}
 use Rattle.mk_states.proofs.Shares.{few_values_at}
 use Rattle.mk_quote.specs.Questions.{spread_in}
 use Rattle.mk_quote.specs.Spreads.{IsSpreadFor}
-use Rattle.mk_assets.specs.Holdings.{Holding}
 use Rattle.mk_record.specs.declared.last_quote.LastQuote.TheVariants.{Bounds}
 use Rattle.mk_record.specs.declared.users.Member.{Member}
 use Rattle.mk_record.specs.Members.{names_of, quotes_of}
-use Rattle.mk_market.specs.inner.Quoting.{OwnsAt, quotes_behind}
+use Rattle.mk_market.specs.inner.Keeping.{AreHeld}
+use Rattle.mk_market.specs.inner.Quoting.{quotes_behind}
 use Rattle.mk_market.proofs.Judging.{last_judges, fresh_judges, judged_by_last, taken, turned_down, behind_set, behind_left, none_held}
 use Rattle.mk_market.proofs.Quotes.{quote_was_set}
 use Rattle.mk_market.proofs.Spreads.{as_many_sides}
@@ -66,27 +66,27 @@ returns-in-Ok-judged_by-clause-judged g c =
     (quotes_of c.fresh_spread_quote.new.users) c.in-Ok-judged_by.units.items
     c.in-Ok.ensures.quotes c.in-Ok-judged_by.ensures
 
-pub returns-after-is_outside-clause-assets : goal.returns-after-is_outside-clause-assets
-returns-after-is_outside-clause-assets g c =
+pub returns-after-is_outside-clause-held : goal.returns-after-is_outside-clause-held
+returns-after-is_outside-clause-held g c =
     elim c.if-is_outside.branch [
       | then-is_outside w ↦
-          (let are = quote_was_set g.A.Engine.stands_for c.args.users.now
+          (let are = quote_was_set g.A.Engine.stands_for c.args.file.now.net c.args.file.now.tree c.args.journal.now.history c.args.users.now
           c.fresh_spread_quote.new.users c.if-is_outside.users c.args.request.now.user
           (Bounds c.in-Ok.quote) c.in-Ok.ensures.names c.in-Ok.ensures.quotes
-          c.in-Ok.ensures.assets c.requires.user (w.users-is ∙ w.set_quote.ensures) in are.assets)
+          c.in-Ok.ensures.held c.requires.user (w.users-is ∙ w.set_quote.ensures) in are.held)
       | else-is_outside w ↦
-          subst (λ (members : List (Member g.row.A.Denot g.row.A-Plan.Denot)). (u : ℕ) (h : Holding) → OwnsAt g.A.Engine.stands_for c.args.users.now u h → OwnsAt g.A.Engine.stands_for members u h)
-          (sym w.users-is) c.in-Ok.ensures.assets
+          subst (λ (members : List (Member g.row.A.Denot g.row.A-Plan.Denot)). AreHeld g.A.Engine.stands_for c.args.file.now.net c.args.file.now.tree c.args.journal.now.history members)
+          (sym w.users-is) c.in-Ok.ensures.held
     ]
 
 pub returns-after-is_outside-clause-names : goal.returns-after-is_outside-clause-names
 returns-after-is_outside-clause-names g c =
     elim c.if-is_outside.branch [
       | then-is_outside w ↦
-          (let are = quote_was_set g.A.Engine.stands_for c.args.users.now
+          (let are = quote_was_set g.A.Engine.stands_for c.args.file.now.net c.args.file.now.tree c.args.journal.now.history c.args.users.now
           c.fresh_spread_quote.new.users c.if-is_outside.users c.args.request.now.user
           (Bounds c.in-Ok.quote) c.in-Ok.ensures.names c.in-Ok.ensures.quotes
-          c.in-Ok.ensures.assets c.requires.user (w.users-is ∙ w.set_quote.ensures) in are.names)
+          c.in-Ok.ensures.held c.requires.user (w.users-is ∙ w.set_quote.ensures) in are.names)
       | else-is_outside w ↦ ap names_of w.users-is ∙ c.in-Ok.ensures.names
     ]
 
@@ -105,10 +105,10 @@ returns-after-is_outside-clause-judged g c =
     let behind : new_quotes ≡ quotes_behind quotes c.args.request.now.user quote why
     = elim c.if-is_outside.branch [
       | then-is_outside w ↦
-          (let are = quote_was_set g.A.Engine.stands_for c.args.users.now
+          (let are = quote_was_set g.A.Engine.stands_for c.args.file.now.net c.args.file.now.tree c.args.journal.now.history c.args.users.now
           c.fresh_spread_quote.new.users c.if-is_outside.users c.args.request.now.user
           (Bounds c.in-Ok.quote) c.in-Ok.ensures.names c.in-Ok.ensures.quotes
-          c.in-Ok.ensures.assets c.requires.user (w.users-is ∙ w.set_quote.ensures) in
+          c.in-Ok.ensures.held c.requires.user (w.users-is ∙ w.set_quote.ensures) in
           behind_set net tree H c.args.request.now.user spread quotes quote judge c.args.shares.now
           new_quotes why (sym c.is_outside.ensures ∙ w.if-is_outside.true) are.quotes)
       | else-is_outside w ↦

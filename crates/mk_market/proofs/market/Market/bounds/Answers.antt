@@ -50,7 +50,7 @@ invariant_of-self g c =
     refiled _ _ _ _ _ _ _ _ _ _ _ _ g.P.Engine.stands_for g.A.Engine.stands_for g.A.Engine.plan_for _ _ _ _ _ _ _ _
     (kept_beside g.P.Engine.stands_for g.A.Engine.stands_for g.A.Engine.plan_for i.file i.prices i.rows i.plan i.users i.ledger i.journal i.payments i.till c.self.invariant
     c.refuse_stopped.new.prices c.fresh_spread_quote.new.users
-    (record { prices_beside = λ m stands. c.refuse_stopped.ensures.kept m (c.in-Err.ensures.prices m stands); names_beside = c.in-Err.ensures.names; assets_beside = c.in-Err.ensures.assets })
+    (record { prices_beside = λ m stands. c.refuse_stopped.ensures.kept m (c.in-Err.ensures.prices m stands); names_beside = c.in-Err.ensures.names; held_beside = c.in-Err.ensures.held })
     c.in-Err.ensures.quotes)
 
 pub returns-in-Err : goal.returns-in-Err
@@ -77,9 +77,9 @@ invariant_of-self-2 g c =
     let made = c.fresh_spread_quote in
     let quote = c.in-Ok.quote in
     let its = c.in-Ok.ensures.quote in
-    let are = quote_was_set g.A.Engine.stands_for i.users made.new.users c.set_quote.new.self
+    let are = quote_was_set g.A.Engine.stands_for i.file.net i.file.tree i.journal.history i.users made.new.users c.set_quote.new.self
     found.request.user (Bounds quote) c.in-Ok.ensures.names c.in-Ok.ensures.quotes
-    c.in-Ok.ensures.assets (in_range i.users (users i.journal.history) found.request.user
+    c.in-Ok.ensures.held (in_range i.users (users i.journal.history) found.request.user
     c.self.invariant.named found.ensures.user.within) c.set_quote.ensures in
     kept_quoted g.P.Engine.stands_for g.A.Engine.stands_for g.A.Engine.plan_for i.file i.prices made.new.prices i.rows i.plan i.users c.set_quote.new.self i.ledger i.journal i.payments i.till
     c.self.invariant found.request.user (Bounds quote)
@@ -98,9 +98,9 @@ returns g c =
     made.new.prices made.new.users c.args.name.now found.request.user found.ensures.user
     c.args.variable.now c.args.condition.now _ question quote its
     (found.ensures.refusal c.args.condition.now (sym c.as_slice.ensures.value)) in
-    let are = quote_was_set g.A.Engine.stands_for i.users made.new.users c.set_quote.new.self
+    let are = quote_was_set g.A.Engine.stands_for i.file.net i.file.tree i.journal.history i.users made.new.users c.set_quote.new.self
     found.request.user (Bounds quote) c.in-Ok.ensures.names c.in-Ok.ensures.quotes
-    c.in-Ok.ensures.assets (in_range i.users (users i.journal.history) found.request.user
+    c.in-Ok.ensures.held (in_range i.users (users i.journal.history) found.request.user
     c.self.invariant.named found.ensures.user.within) c.set_quote.ensures in
     rw (← c.self.view_is)
     (bounds_answered g.P.Engine.stands_for g.A.Engine.stands_for g.A.Engine.plan_for i.file i.prices i.rows i.plan i.users c.set_quote.new.self i.ledger i.journal i.payments i.till

@@ -25,7 +25,7 @@ pub invariant_of-self : goal.invariant_of-self
 invariant_of-self g c =
     deposit_kept g.P.Engine.stands_for g.A.Engine.stands_for g.A.Engine.plan_for _ _ _ _ _ _ _ _ _ c.self.invariant c.args.name.now c.in_ok-user.user c.args.bits
     c.in_ok-user.ensures.user c.in_ok-user.ensures.room c.assets.result.now c.deposit.new.self c.assets.ensures.value c.deposit-2.new.self c.deposit-3.new.self
-    c.deposit-3.ensures.history (c.in_ok-user.ensures.deposit (market_of c.self.inside.file) c.self.invariant.max_transfers) (record { trades = c.deposit-3.ensures.limit; users = c.deposit-3.ensures.users; transfers = c.deposit-3.ensures.transfers }) c.deposit.ensures c.deposit-2.ensures
+    c.deposit-3.ensures.history (c.in_ok-user.ensures.deposit (market_of c.self.inside.file) c.self.invariant.max_transfers) (record { trades = c.deposit-3.ensures.limit; users = c.deposit-3.ensures.users; transfers = c.deposit-3.ensures.transfers }) c.deposit.ensures.held c.deposit-2.ensures
 
 pub returns : goal.returns
 returns g c =

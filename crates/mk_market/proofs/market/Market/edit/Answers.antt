@@ -34,7 +34,7 @@ invariant_of-self g c =
     let i = c.self.inside in
     let made = c.present_quote in
     kept_unquoted g.P.Engine.stands_for g.A.Engine.stands_for g.A.Engine.plan_for i.file i.prices c.refuse_decided.new.prices i.rows i.plan i.users made.new.users i.ledger i.journal i.payments i.till
-    c.self.invariant (λ m stands. c.refuse_decided.ensures.kept m (made.ensures.prices m stands)) made.ensures.names made.ensures.quotes made.ensures.assets
+    c.self.invariant (λ m stands. c.refuse_decided.ensures.kept m (made.ensures.prices m stands)) made.ensures.names made.ensures.quotes made.ensures.held
 
 pub returns-in-Err : goal.returns-in-Err
 returns-in-Err g c =
@@ -55,9 +55,9 @@ invariant_of-self-in_default g c =
     let found = c.in_ok-request in
     let made = c.present_quote in
     let ok = c.in-Ok in
-    let are = quote_was_set g.A.Engine.stands_for i.users made.new.users c.set_quote.new.self
+    let are = quote_was_set g.A.Engine.stands_for i.file.net i.file.tree i.journal.history i.users made.new.users c.set_quote.new.self
     found.request.user (Limits ok.quote) made.ensures.names made.ensures.quotes
-    made.ensures.assets (in_range i.users (users i.journal.history) found.request.user
+    made.ensures.held (in_range i.users (users i.journal.history) found.request.user
     c.self.invariant.named found.ensures.user.within) c.set_quote.ensures in
     kept_quoted g.P.Engine.stands_for g.A.Engine.stands_for g.A.Engine.plan_for i.file i.prices made.new.prices i.rows i.plan i.users c.set_quote.new.self i.ledger i.journal i.payments i.till
     c.self.invariant found.request.user (Limits ok.quote)
@@ -76,9 +76,9 @@ returns-in_default g c =
     found.request.question ok.quote ok.ensures.quote) found.ensures.refusal in
     let last = last_is i.users found.request.user found.request.question
     (revision i.journal.history) made.result ok.quote ok.is made.ensures.last in
-    let are = quote_was_set g.A.Engine.stands_for i.users made.new.users c.set_quote.new.self
+    let are = quote_was_set g.A.Engine.stands_for i.file.net i.file.tree i.journal.history i.users made.new.users c.set_quote.new.self
     found.request.user (Limits ok.quote) made.ensures.names made.ensures.quotes
-    made.ensures.assets (in_range i.users (users i.journal.history) found.request.user
+    made.ensures.held (in_range i.users (users i.journal.history) found.request.user
     c.self.invariant.named found.ensures.user.within) c.set_quote.ensures in
     rw (← c.self.view_is)
     (beyond_answered g.P.Engine.stands_for g.A.Engine.stands_for g.A.Engine.plan_for i.file i.prices i.rows i.plan i.users c.set_quote.new.self i.ledger i.journal i.payments i.till
@@ -151,7 +151,7 @@ trade-requires g c =
     i.rows i.plan i.users i.ledger i.journal i.payments i.till c.self.invariant found.request.user
     found.ensures.user.within
     (ratio_in i.file.net found.request.question (units.0) (units.1)) made.new.prices made.new.users
-    made.ensures.prices made.ensures.assets made.ensures.names
+    made.ensures.prices made.ensures.held made.ensures.names
     (ratio_fits i.file.net found.request.question (units.0) (units.1)
     found.ensures.question.answered.in_order.in_range hit.positive miss.positive)
     found.request.home (home_of_ratio i.file.net i.file.tree found.request.question
@@ -193,7 +193,7 @@ invariant_of-self-2 g c =
     history (c.trade.ensures.quotes ∙ made.ensures.quotes) c.revision.result c.revision.ensures)
     c.trade.ensures.history (c.trade.ensures.quotes ∙ made.ensures.quotes)
     c.trade.new.prices c.trade.ensures.limits (λ m stands. c.trade.ensures.prices m (made.ensures.prices m stands)) (c.trade.ensures.names ∙ made.ensures.names)
-    (c.trade.ensures.assets i.file.net i.file.tree (λ u. made.ensures.assets u _ (c.self.invariant.owns u)))
+    (c.trade.ensures.held i.file.net i.file.tree made.ensures.held)
 
 pub returns : goal.returns
 returns g c =

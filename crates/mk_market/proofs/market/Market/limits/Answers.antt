@@ -25,7 +25,7 @@ invariant_of-self g c =
     let i = c.self.inside in
     let made = c.fresh_quote in
     kept_unquoted g.P.Engine.stands_for g.A.Engine.stands_for g.A.Engine.plan_for i.file i.prices c.refuse_decided.new.prices i.rows i.plan i.users made.new.users i.ledger i.journal i.payments i.till
-    c.self.invariant (λ m stands. c.refuse_decided.ensures.kept m (made.ensures.prices m stands)) made.ensures.names made.ensures.quotes made.ensures.assets
+    c.self.invariant (λ m stands. c.refuse_decided.ensures.kept m (made.ensures.prices m stands)) made.ensures.names made.ensures.quotes made.ensures.held
 
 pub returns-in-Err : goal.returns-in-Err
 returns-in-Err g c =
@@ -45,9 +45,9 @@ invariant_of-self-2 g c =
     let found = c.in_ok-request in
     let made = c.fresh_quote in
     let ok = c.in-Ok in
-    let are = quote_was_set g.A.Engine.stands_for i.users made.new.users c.set_quote.new.self
+    let are = quote_was_set g.A.Engine.stands_for i.file.net i.file.tree i.journal.history i.users made.new.users c.set_quote.new.self
     found.request.user (Limits ok.quote) made.ensures.names made.ensures.quotes
-    made.ensures.assets (in_range i.users (users i.journal.history) found.request.user
+    made.ensures.held (in_range i.users (users i.journal.history) found.request.user
     c.self.invariant.named found.ensures.user.within) c.set_quote.ensures in
     kept_quoted g.P.Engine.stands_for g.A.Engine.stands_for g.A.Engine.plan_for i.file i.prices made.new.prices i.rows i.plan i.users c.set_quote.new.self i.ledger i.journal i.payments i.till
     c.self.invariant found.request.user (Limits ok.quote)
@@ -64,9 +64,9 @@ returns g c =
     found.request.question found.ensures.question.named
     (left_by_quote i.file.net i.file.tree i.journal.history found.request.user
     found.request.question ok.quote ok.ensures.quote) found.ensures.refusal in
-    let are = quote_was_set g.A.Engine.stands_for i.users made.new.users c.set_quote.new.self
+    let are = quote_was_set g.A.Engine.stands_for i.file.net i.file.tree i.journal.history i.users made.new.users c.set_quote.new.self
     found.request.user (Limits ok.quote) made.ensures.names made.ensures.quotes
-    made.ensures.assets (in_range i.users (users i.journal.history) found.request.user
+    made.ensures.held (in_range i.users (users i.journal.history) found.request.user
     c.self.invariant.named found.ensures.user.within) c.set_quote.ensures in
     rw (← c.self.view_is)
     (limits_answered g.P.Engine.stands_for g.A.Engine.stands_for g.A.Engine.plan_for i.file i.prices i.rows i.plan i.users c.set_quote.new.self i.ledger i.journal i.payments i.till

@@ -1,4 +1,3 @@
-use Rattle.std.proofs.Common.{◌≡◌}
 use Rattle.mk_command.specs.declared.command.Command.TheVariants.{Paid}
 use Rattle.mk_file.specs.MarketOf.{market_of}
 use Rattle.mk_market.proofs.Replies.{refused_answered}

@@ -1,4 +1,5 @@
 use Rattle.std.proofs.Common.{refl, sym, ap, ◌∙◌}
+use Rattle.mk_exact.specs.History.{users}
 use Rattle.mk_command.specs.declared.command.Command.TheVariants.{Position}
 use Rattle.mk_reply.specs.declared.reply.Reply.TheVariants.{Refused, Position as Sure}
 use Rattle.mk_file.specs.MarketOf.{market_of}
@@ -11,6 +12,8 @@ use Rattle.mk_market.specs.inner.Stopped.{IsConditionBy}
 use Rattle.mk_market.proofs.EveryValue.{can_refuse_told, known_of, same_standing}
 use Rattle.mk_market.proofs.EveryValue.{position_allowed, position_stopped, position_kept}
 use Rattle.mk_market.proofs.Growing.{is_open}
+use Rattle.mk_market.proofs.Lent.{in_range}
+use Rattle.mk_market.proofs.Quotes.{kept_unquoted, answered_learnt}
 use Rattle.mk_market.proofs.Refiled.{refiled}
 use Rattle.mk_market.proofs.Replies.{answered_refused, by_record, none_appended}
 use Rattle.mk_record.proofs.SpreadRefusals.{value_is_held}
@@ -26,16 +29,24 @@ returns-in_err-request g c =
     (by_record (market_of i.file) i.journal.history command c.in_err-request.field-0.0
     (c.in_err-request.ensures.refusal c.args.condition.now (sym c.as_slice-words.ensures.value)))
 
+pub assets-requires : goal.assets-requires
+assets-requires g c =
+    let i = c.self.inside in
+    in_range c.learn.new.users (users i.journal.history) c.in_ok-request.request.user (c.learn.ensures.names ∙ c.self.invariant.named) c.in_ok-request.ensures.user.within
+
 pub position_of-requires-clause-assets : goal.position_of-requires-clause-assets
 position_of-requires-clause-assets g c =
-    let i = c.self.inside in let found = c.in_ok-request in
+    let i = c.self.inside in
+    let kept = kept_unquoted g.P.Engine.stands_for g.A.Engine.stands_for g.A.Engine.plan_for i.file i.prices i.prices i.rows i.plan i.users c.learn.new.users i.ledger i.journal i.payments i.till
+    c.self.invariant (λ m stands. stands) c.learn.ensures.names c.learn.ensures.quotes c.learn.ensures.held in
+    let found = c.in_ok-request in
     record {
       tree = i.file.tree;
       history = i.journal.history;
       user = found.request.user;
-      owns = c.self.invariant.owns found.request.user c.assets.result.now c.assets.ensures.value;
+      owns = c.learn.ensures.learnt c.assets.result.now c.assets.ensures.value;
       is_open = is_open g.P.Engine.stands_for g.A.Engine.stands_for g.A.Engine.plan_for i.file
-          i.prices i.rows i.plan i.users i.ledger i.journal i.payments i.till c.self.invariant;
+          i.prices i.rows i.plan c.learn.new.users i.ledger i.journal i.payments i.till kept;
       answered = found.ensures.question.answered;
       held = λ value. value_is_held i.file.tree found.request.home
           (spread_in found.request.question) value found.ensures.home;
@@ -43,76 +54,91 @@ position_of-requires-clause-assets g c =
 
 pub invariant_of-self : goal.invariant_of-self
 invariant_of-self g c =
-    let i = c.self.inside in let found = c.in_ok-request in
+    let i = c.self.inside in
+    let kept = kept_unquoted g.P.Engine.stands_for g.A.Engine.stands_for g.A.Engine.plan_for i.file i.prices i.prices i.rows i.plan i.users c.learn.new.users i.ledger i.journal i.payments i.till
+    c.self.invariant (λ m stands. stands) c.learn.ensures.names c.learn.ensures.quotes c.learn.ensures.held in
+    let found = c.in_ok-request in
     refiled _ _ _ _ _ _ _ _ _ _ _ _ g.P.Engine.stands_for g.A.Engine.stands_for g.A.Engine.plan_for _ _ _ _
     _ _ _ _
     (position_kept g.P.Engine.stands_for g.A.Engine.stands_for g.A.Engine.plan_for i.file i.prices
-    i.rows i.plan i.users i.ledger i.journal i.payments i.till c.self.invariant i.prices
+    i.rows i.plan c.learn.new.users i.ledger i.journal i.payments i.till kept i.prices
     (λ m stands. stands) found.request.user
     c.assets.result.now c.position_of.new.assets c.assets.ensures.value
     c.position_of.ensures.kept_assets)
 
 pub refuse_condition-requires : goal.refuse_condition-requires
 refuse_condition-requires g c =
-    let i = c.self.inside in let found = c.in_ok-request in let H = i.journal.history in
+    let i = c.self.inside in
+    let kept = kept_unquoted g.P.Engine.stands_for g.A.Engine.stands_for g.A.Engine.plan_for i.file i.prices i.prices i.rows i.plan i.users c.learn.new.users i.ledger i.journal i.payments i.till
+    c.self.invariant (λ m stands. stands) c.learn.ensures.names c.learn.ensures.quotes c.learn.ensures.held in
+    let found = c.in_ok-request in let H = i.journal.history in
     let opened = is_open g.P.Engine.stands_for g.A.Engine.stands_for g.A.Engine.plan_for i.file
-    i.prices i.rows i.plan i.users i.ledger i.journal i.payments i.till c.self.invariant in
+    i.prices i.rows i.plan c.learn.new.users i.ledger i.journal i.payments i.till kept in
     let command = Position c.args.name.now c.args.variable.now c.args.condition.now in
     let none = found.ensures.refusal c.args.condition.now (sym c.as_slice-words.ensures.value) in
     let known = (none_applies (refusals_by_record (market_of i.file) H command) (sym none)).1.1.1.0
     in
     can_refuse_told g.P.Engine.stands_for i.prices i.file.net i.file.tree H
-    c.self.invariant.prices_stand opened
+    kept.prices_stand opened
     c.args.variable.now c.as_slice-words.result.now (spread_in found.request.question)
     found.ensures.question.named
     (known_of i.file.net c.as_slice-words.result.now c.args.condition.now.items
     c.as_slice-words.ensures.value known)
     found.ensures.question.answered found.request.home found.ensures.home
     (c.in-None.ensures.position i.file.tree H found.request.user
-    (c.self.invariant.owns found.request.user c.assets.result.now c.assets.ensures.value)
+    (c.learn.ensures.learnt c.assets.result.now c.assets.ensures.value)
     opened found.ensures.question.answered)
 
 pub invariant_of-self-in-None : goal.invariant_of-self-in-None
 invariant_of-self-in-None g c =
-    let i = c.self.inside in let found = c.in_ok-request in
+    let i = c.self.inside in
+    let kept = kept_unquoted g.P.Engine.stands_for g.A.Engine.stands_for g.A.Engine.plan_for i.file i.prices i.prices i.rows i.plan i.users c.learn.new.users i.ledger i.journal i.payments i.till
+    c.self.invariant (λ m stands. stands) c.learn.ensures.names c.learn.ensures.quotes c.learn.ensures.held in
+    let found = c.in_ok-request in
     refiled _ _ _ _ _ _ _ _ _ _ _ _ g.P.Engine.stands_for g.A.Engine.stands_for g.A.Engine.plan_for _ _ _ _
     _ _ _ _
     (position_kept g.P.Engine.stands_for g.A.Engine.stands_for g.A.Engine.plan_for i.file i.prices
-    i.rows i.plan i.users i.ledger i.journal i.payments i.till c.self.invariant
+    i.rows i.plan c.learn.new.users i.ledger i.journal i.payments i.till kept
     c.refuse_condition.new.prices c.refuse_condition.ensures.kept found.request.user
     c.assets.result.now c.position_of.new.assets c.assets.ensures.value
     c.position_of.ensures.kept_assets)
 
 pub returns-in-Some : goal.returns-in-Some
 returns-in-Some g c =
-    let i = c.self.inside in let found = c.in_ok-request in let H = i.journal.history in
+    let i = c.self.inside in
+    let kept = kept_unquoted g.P.Engine.stands_for g.A.Engine.stands_for g.A.Engine.plan_for i.file i.prices i.prices i.rows i.plan i.users c.learn.new.users i.ledger i.journal i.payments i.till
+    c.self.invariant (λ m stands. stands) c.learn.ensures.names c.learn.ensures.quotes c.learn.ensures.held in
+    let found = c.in_ok-request in let H = i.journal.history in
     let opened = is_open g.P.Engine.stands_for g.A.Engine.stands_for g.A.Engine.plan_for i.file
-    i.prices i.rows i.plan i.users i.ledger i.journal i.payments i.till c.self.invariant in
+    i.prices i.rows i.plan c.learn.new.users i.ledger i.journal i.payments i.till kept in
     let spread = spread_in found.request.question in
     let command = Position c.args.name.now c.args.variable.now c.args.condition.now in
     let question = question_for i.file H c.args.variable.now c.as_slice-words.result.now
     c.args.condition.now spread c.as_slice-words.ensures.value found.ensures.question in
     let none = found.ensures.refusal c.args.condition.now (sym c.as_slice-words.ensures.value) in
-    rw (← c.self.view_is) (record {
+    rw (← c.self.view_is) (answered_learnt i.file i.ledger i.journal i.users c.learn.new.users c.learn.ensures.quotes _ command (Sure c.in-Some.intervals) (record {
       market = refl;
-      allowed = λ sound. position_allowed i.file (standing_of i.journal i.users) c.args.variable.now
+      allowed = λ sound. position_allowed i.file (standing_of i.journal c.learn.new.users) c.args.variable.now
           c.args.condition.now spread question
           c.args.name.now found.request.user found.ensures.user c.in-Some.intervals none
           (c.in-Some.ensures.position i.file.tree H found.request.user
-          (c.self.invariant.owns found.request.user c.assets.result.now c.assets.ensures.value)
+          (c.learn.ensures.learnt c.assets.result.now c.assets.ensures.value)
           opened found.ensures.question.answered) sound;
-      next = same_standing i.journal i.users found.request.user c.assets.result.now
+      next = same_standing i.journal c.learn.new.users found.request.user c.assets.result.now
           c.position_of.new.assets c.assets.ensures.value
-          ∙ none_appended (market_of i.file) (standing_of i.journal i.users) command
+          ∙ none_appended (market_of i.file) (standing_of i.journal c.learn.new.users) command
           (Sure c.in-Some.intervals) refl refl;
       paid = λ u. refl;
-    })
+    }))
 
 pub returns-in-None : goal.returns-in-None
 returns-in-None g c =
-    let i = c.self.inside in let found = c.in_ok-request in let H = i.journal.history in
+    let i = c.self.inside in
+    let kept = kept_unquoted g.P.Engine.stands_for g.A.Engine.stands_for g.A.Engine.plan_for i.file i.prices i.prices i.rows i.plan i.users c.learn.new.users i.ledger i.journal i.payments i.till
+    c.self.invariant (λ m stands. stands) c.learn.ensures.names c.learn.ensures.quotes c.learn.ensures.held in
+    let found = c.in_ok-request in let H = i.journal.history in
     let opened = is_open g.P.Engine.stands_for g.A.Engine.stands_for g.A.Engine.plan_for i.file
-    i.prices i.rows i.plan i.users i.ledger i.journal i.payments i.till c.self.invariant in
+    i.prices i.rows i.plan c.learn.new.users i.ledger i.journal i.payments i.till kept in
     let spread = spread_in found.request.question in
     let command = Position c.args.name.now c.args.variable.now c.args.condition.now in
     let question = question_for i.file H c.args.variable.now c.as_slice-words.result.now
@@ -128,20 +154,20 @@ returns-in-None g c =
           found.ensures.question.named).2;
     } in
     let refused = c.refuse_condition.ensures.refusal i.file.net i.file.tree H
-    c.self.invariant.prices_stand opened by
+    kept.prices_stand opened by
     (c.in-None.ensures.position i.file.tree H found.request.user
-    (c.self.invariant.owns found.request.user c.assets.result.now c.assets.ensures.value) opened
+    (c.learn.ensures.learnt c.assets.result.now c.assets.ensures.value) opened
     found.ensures.question.answered) in
-    rw (← c.self.view_is) (record {
+    rw (← c.self.view_is) (answered_learnt i.file i.ledger i.journal i.users c.learn.new.users c.learn.ensures.quotes _ command (Refused c.refuse_condition.result) (record {
       market = refl;
-      allowed = λ sound. position_stopped i.file (standing_of i.journal i.users) c.args.variable.now
+      allowed = λ sound. position_stopped i.file (standing_of i.journal c.learn.new.users) c.args.variable.now
           c.args.condition.now spread question
           c.args.name.now c.refuse_condition.result none
           (ap (impossible_together i.file.net H) (sym c.as_slice-words.ensures.value) ∙
           refused);
-      next = same_standing i.journal i.users found.request.user c.assets.result.now
+      next = same_standing i.journal c.learn.new.users found.request.user c.assets.result.now
           c.position_of.new.assets c.assets.ensures.value
-          ∙ none_appended (market_of i.file) (standing_of i.journal i.users) command
+          ∙ none_appended (market_of i.file) (standing_of i.journal c.learn.new.users) command
           (Refused c.refuse_condition.result) refl refl;
       paid = λ u. refl;
-    })
+    }))

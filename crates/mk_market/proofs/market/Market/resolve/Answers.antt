@@ -7,7 +7,7 @@ use Rattle.mk_reply.specs.declared.refusal.Refusal.TheVariants.{Impossible}
 use Rattle.mk_reply.specs.declared.reply.Reply.TheVariants.{Resolved}
 use Rattle.mk_market.specs.inner.Keeping.{standing_of}
 use Rattle.mk_market.proofs.Replies.{refused_stays, nothing_added}
-use Rattle.mk_market.proofs.Resolved.{has_home, can_be_told, can_ask, few_known, unrefused_where}
+use Rattle.mk_market.proofs.Resolved.{has_home, can_ask, few_known, unrefused_where}
 use Rattle.mk_market.proofs.Resolved.{never_answered, asked_kept, resolution_allowed}
 use Rattle.mk_market.proofs.Resolved.{resolution_next, resolution_kept}
 use Rattle.mk_market.proofs.Refiled.{refiled}
@@ -38,11 +38,6 @@ know-requires-2-clause-home g c =
     c.home_of-home.result (c.in_ok-pair.pair ∷ [])
     c.self.invariant.rows_stand c.home_of-home.ensures
 
-pub tell-requires : goal.tell-requires
-tell-requires g c = can_be_told g.P.Engine.stands_for g.A.Engine.stands_for g.A.Engine.plan_for _ _ _ _ _ _ _ _ _ c.self.invariant c.args.words.now c.in_ok-pair.pair
-    c.in_ok-pair.ensures.named c.in_ok-pair.ensures.pair c.home_of-home.result
-    c.home_of-home.ensures
-
 pub resolve-requires : goal.resolve-requires
 resolve-requires g c = few_known g.P.Engine.stands_for g.A.Engine.stands_for g.A.Engine.plan_for _ _ _ _ _ _ _ _ _ c.self.invariant c.args.words.now c.in_ok-pair.pair
     c.in_ok-pair.ensures.named c.in_ok-pair.ensures.pair
@@ -62,8 +57,8 @@ invariant_of-self-2 g c =
     c.in_ok-pair.ensures.named c.in_ok-pair.ensures.pair
     (unrefused_where g.P.Engine.stands_for g.A.Engine.stands_for g.A.Engine.plan_for _ _ _ _ _ _ _ _ _ c.self.invariant c.args.words.now c.in_ok-pair.pair
     c.in_ok-pair.ensures.named c.in_ok-pair.ensures.pair c.in_ok-pair.ensures.refusal c.can_come.result c.can_come.ensures.found c.if-not-can_come.false)
-    c.know.new.self c.know-2.new.self c.tell.new.users c.resolve.new.self c.resolve.ensures.history (record { trades = c.resolve.ensures.limit; users = c.resolve.ensures.users; transfers = c.resolve.ensures.transfers })
-    (λ (m : Meaning) stands. c.know.ensures m (c.can_come.ensures.kept m stands)) c.know-2.ensures c.tell.ensures.assets c.tell.ensures.names c.tell.ensures.quotes)
+    c.know.new.self c.know-2.new.self c.resolve.new.self c.resolve.ensures.history (record { trades = c.resolve.ensures.limit; users = c.resolve.ensures.users; transfers = c.resolve.ensures.transfers })
+    (λ (m : Meaning) stands. c.know.ensures m (c.can_come.ensures.kept m stands)) c.know-2.ensures)
 
 pub returns-then-not-can_come : goal.returns-then-not-can_come
 returns-then-not-can_come g c =
@@ -90,6 +85,6 @@ returns g c =
           c.in_ok-pair.ensures.named c.in_ok-pair.ensures.pair
           (unrefused_where g.P.Engine.stands_for g.A.Engine.stands_for g.A.Engine.plan_for _ _ _ _ _ _ _ _ _ c.self.invariant c.args.words.now c.in_ok-pair.pair
           c.in_ok-pair.ensures.named c.in_ok-pair.ensures.pair c.in_ok-pair.ensures.refusal c.can_come.result c.can_come.ensures.found c.if-not-can_come.false)
-          c.tell.new.users c.resolve.new.self c.resolve.ensures.history c.tell.ensures.quotes c.revision.result;
+          c.resolve.new.self c.resolve.ensures.history c.revision.result;
       paid = λ u. refl;
     })

@@ -1,11 +1,10 @@
-use Rattle.std.proofs.Common.{◌≡◌, ℕ, ◌+◌, ◌<◌, List, [], ◌∷◌, ◌++◌, None, map, length, refl, sym, ap, ◌∙◌, subst, arith}
+use Rattle.std.proofs.Common.{◌≡◌, ℕ, ◌+◌, ◌<◌, List, [], ◌∷◌, ◌++◌, None, length, refl, sym, ap, ◌∙◌, subst}
 use Rattle.std.specs.List.{AllByRecursion}
 use Rattle.std.proofs.lemmas.List.{length-map}
 use Rattle.mk_net.specs.Bounds.{max_payments, number_limit}
 use Rattle.mk_states.specs.States.{numbers_below}
-use Rattle.mk_exact.specs.History.{Entry, Settle as Settles, users, revision}
+use Rattle.mk_exact.specs.History.{Settle as Settles, users, revision}
 use Rattle.mk_exact.specs.ByRule.{outcome, payments_by_rule, paid_in_all}
-use Rattle.mk_exact.proofs.After.{users_kept}
 use Rattle.mk_cash.proofs.Sums.{payments_by_rule_fit}
 use Rattle.mk_command.specs.declared.command.Command.TheVariants.{Settle}
 use Rattle.mk_reply.specs.declared.reply.Reply.TheVariants.{SettledAll}
@@ -19,7 +18,6 @@ use Rattle.mk_record.specs.Entries.{ends}
 use Rattle.mk_record.specs.Refused.{CanBeSettled}
 use Rattle.mk_replay.specs.Tills.{TillOf}
 use Rattle.mk_market.specs.Trading.{Trading}
-use Rattle.mk_market.specs.inner.Keeping.{standing_of}
 use Rattle.mk_market.specs.inner.Paying.{ArePaid}
 use Rattle.mk_market.proofs.Fitting.{lows_fit, highs_fit, rule_count}
 use Rattle.mk_market.proofs.TakenBack.{taken_back}
@@ -78,7 +76,7 @@ invariant_of-self-2 g c =
     reply paid refl c.self.inside.users c.settle.new.self history refl
     (summed_agrees market H reply many refl) tt c.book.new.ledger c.self.inside.payments c.take.new.self
     (record { trades = c.settle.ensures.limit; users = c.settle.ensures.users; transfers = c.settle.ensures.transfers })
-    refl (λ u h owns. owns)
+    refl c.self.invariant.held
     (subst (ArePaid c.self.inside.ledger.accounts c.book.new.ledger.accounts) (c.rows.ensures.same ∙ in_till) c.book.ensures.entered)
     c.book.ensures.room
 

@@ -41,7 +41,7 @@ invariant_of-self g c =
     c.in_ok-user.ensures.user c.in_ok-user.ensures.room c.assets.result.now c.deposit.new.self
     c.assets.ensures.value c.deposit-2.new.self c.deposit-3.new.self
     c.deposit-3.ensures.history (c.in_ok-user.ensures.deposit (market_of c.self.inside.file) c.self.invariant.max_transfers)
-    (record { trades = c.deposit-3.ensures.limit; users = c.deposit-3.ensures.users; transfers = c.deposit-3.ensures.transfers }) c.deposit.ensures c.deposit-2.ensures
+    (record { trades = c.deposit-3.ensures.limit; users = c.deposit-3.ensures.users; transfers = c.deposit-3.ensures.transfers }) c.deposit.ensures.held c.deposit-2.ensures
 
 pub returns : goal.returns
 returns g c =

@@ -46,7 +46,7 @@ trade-requires g c =
     i.rows i.plan i.users i.ledger i.journal i.payments i.till c.self.invariant found.request.user
     found.ensures.user.within
     (ratio_in i.file.net found.request.question (units.0) (units.1)) i.prices i.users
-    (λ m stands. stands) (λ u h owns. owns) refl
+    (λ m stands. stands) c.self.invariant.held refl
     (ratio_fits i.file.net found.request.question (units.0) (units.1)
     found.ensures.question.answered.in_order.in_range are.0.positive are.1.positive)
     found.request.home (home_of_ratio i.file.net i.file.tree found.request.question
@@ -82,7 +82,7 @@ invariant_of-self g c =
     c.trade.new.journal history c.trade.ensures.quotes)
     c.trade.ensures.history c.trade.ensures.quotes
     c.trade.new.prices c.trade.ensures.limits c.trade.ensures.prices c.trade.ensures.names
-    (c.trade.ensures.assets i.file.net i.file.tree c.self.invariant.owns)
+    (c.trade.ensures.held i.file.net i.file.tree c.self.invariant.held)
 
 pub returns : goal.returns
 returns g c =

@@ -1,8 +1,8 @@
-use Rattle.std.proofs.Common.{◌≡◌, ℕ, ◌+◌, ◌<◌, ◌≤◌, List, [], ◌∷◌, ◌++◌, None, map, length, refl, sym, ap, ◌∙◌, subst, arith}
+use Rattle.std.proofs.Common.{◌≡◌, ℕ, ◌+◌, ◌≤◌, List, [], ◌∷◌, ◌++◌, None, map, length, refl, sym, ap, ◌∙◌, subst}
 use Rattle.std.specs.List.{AllByRecursion}
 use Rattle.std.proofs.lemmas.List.{length-map}
 use Rattle.std.proofs.lemmas.List.Elements.{recursion_from_All}
-use Rattle.mk_net.specs.Bounds.{max_payments, number_limit}
+use Rattle.mk_net.specs.Bounds.{max_payments}
 use Rattle.mk_exact.specs.History.{Settle as Settles, users, revision}
 use Rattle.mk_command.specs.declared.command.Command.TheVariants.{Settle}
 use Rattle.mk_reply.specs.declared.payments.Payment.{Payment}
@@ -12,16 +12,13 @@ use Rattle.mk_rules.specs.Refusals.{first_refusal}
 use Rattle.mk_rules.specs.Answers.{ends_of}
 use Rattle.mk_rules.specs.Bounded.{FitPayment}
 use Rattle.mk_file.specs.MarketOf.{market_of}
-use Rattle.mk_record.specs.Entries.{ends}
-use Rattle.mk_record.specs.Members.{names_of}
 use Rattle.mk_record.specs.Refused.{CanBeSettled}
 use Rattle.mk_replay.specs.Tills.{TillOf}
 use Rattle.mk_market.specs.Trading.{Trading}
-use Rattle.mk_market.specs.inner.Keeping.{standing_of}
 use Rattle.mk_market.specs.inner.Paying.{ArePaid}
 use Rattle.mk_market.proofs.Fitting.{lows_fit, highs_fit, read_fit}
 use Rattle.mk_market.proofs.TakenBack.{taken_back}
-use Rattle.mk_market.proofs.Settlement.{settlement_next, settlement_kept, settled_at, listed_agrees, listed_paid, unpaid_before}
+use Rattle.mk_market.proofs.Settlement.{settlement_next, settlement_kept, listed_agrees, listed_paid, unpaid_before}
 use Rattle.mk_market.proofs.market.Market.restore_listed.Goals as goal
 
 pub book-requires-clause-unpaid : goal.book-requires-clause-unpaid
@@ -68,7 +65,7 @@ invariant_of-self g c =
     (Settled at pays) paid refl c.self.inside.users c.settle.new.self history refl
     agrees fit c.book.new.ledger c.self.inside.payments c.take.new.self
     (record { trades = c.settle.ensures.limit; users = c.settle.ensures.users; transfers = c.settle.ensures.transfers })
-    refl (λ u h owns. owns)
+    refl c.self.invariant.held
     (subst (ArePaid c.self.inside.ledger.accounts c.book.new.ledger.accounts) (c.rows-2.ensures.same ∙ in_till) c.book.ensures.entered)
     c.book.ensures.room
 

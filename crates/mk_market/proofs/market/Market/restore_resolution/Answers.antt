@@ -9,7 +9,7 @@ use Rattle.mk_reply.specs.declared.refusal.Refusal.TheVariants.{Impossible}
 use Rattle.mk_reply.specs.declared.reply.Reply.TheVariants.{Resolved}
 use Rattle.mk_market.specs.inner.Keeping.{standing_of}
 use Rattle.mk_market.proofs.Replies.{by_record, nothing_added}
-use Rattle.mk_market.proofs.Resolved.{has_home, can_be_told, can_ask, few_known, unrefused_where}
+use Rattle.mk_market.proofs.Resolved.{has_home, can_ask, few_known, unrefused_where}
 use Rattle.mk_market.proofs.Resolved.{never_refused, asked_kept, resolution_next, resolution_kept}
 use Rattle.mk_market.proofs.Refiled.{refiled}
 use Rattle.mk_market.proofs.TakenBack.{left_by_reply, left_by_refusal, tried_unfit, taken_back}
@@ -55,12 +55,6 @@ know-requires-2-clause-home g c =
     c.home_of-home.result (c.in_ok-pair.pair ∷ [])
     c.self.invariant.rows_stand c.home_of-home.ensures
 
-pub tell-requires : goal.tell-requires
-tell-requires g c = can_be_told g.P.Engine.stands_for g.A.Engine.stands_for g.A.Engine.plan_for _ _
-    _ _ _ _ _ _ _ c.self.invariant c.args.words.now c.in_ok-pair.pair
-    c.in_ok-pair.ensures.named c.in_ok-pair.ensures.pair c.home_of-home.result
-    c.home_of-home.ensures
-
 pub resolve-requires : goal.resolve-requires
 resolve-requires g c = few_known g.P.Engine.stands_for g.A.Engine.stands_for g.A.Engine.plan_for _
     _ _ _ _ _ _ _ _ c.self.invariant c.args.words.now c.in_ok-pair.pair
@@ -90,10 +84,9 @@ invariant_of-self-2 g c =
     _ _ c.self.invariant c.args.words.now c.in_ok-pair.pair
     c.in_ok-pair.ensures.named c.in_ok-pair.ensures.pair c.in_ok-pair.ensures.refusal
     c.can_come.result c.can_come.ensures.found c.if-not-can_come.false)
-    c.know.new.self c.know-2.new.self c.tell.new.users c.resolve.new.self c.resolve.ensures.history
+    c.know.new.self c.know-2.new.self c.resolve.new.self c.resolve.ensures.history
     (record { trades = c.resolve.ensures.limit; users = c.resolve.ensures.users; transfers = c.resolve.ensures.transfers })
-    (λ (m : Meaning) stands. c.know.ensures m (c.can_come.ensures.kept m stands)) c.know-2.ensures
-    c.tell.ensures.assets c.tell.ensures.names c.tell.ensures.quotes)
+    (λ (m : Meaning) stands. c.know.ensures m (c.can_come.ensures.kept m stands)) c.know-2.ensures)
 
 pub returns-then-not-can_come : goal.returns-then-not-can_come
 returns-then-not-can_come g c =
@@ -121,6 +114,6 @@ returns g c =
     (resolution_next g.P.Engine.stands_for g.A.Engine.stands_for g.A.Engine.plan_for _ _ _ _ _ _ _
     _ _ c.self.invariant c.args.words.now c.in_ok-pair.pair
     c.in_ok-pair.ensures.named c.in_ok-pair.ensures.pair none
-    c.tell.new.users c.resolve.new.self c.resolve.ensures.history c.tell.ensures.quotes
+    c.resolve.new.self c.resolve.ensures.history
     (revision H + 1))
     (λ u. refl))

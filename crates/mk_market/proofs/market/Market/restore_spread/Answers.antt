@@ -32,7 +32,7 @@ trade-requires g c =
     (can_be_made g.P.Engine.stands_for g.A.Engine.stands_for g.A.Engine.plan_for i.file i.prices
     i.rows i.plan i.users i.ledger i.journal i.payments i.till c.self.invariant found.request.user
     found.ensures.user.within (spread_ratio spread factors.items) i.prices i.users
-    (λ m stands. stands) (λ u h owns. owns) refl
+    (λ m stands. stands) c.self.invariant.held refl
     (spread_ratio_fits i.file i.journal c.args.name.now found.request.user found.ensures.user
     wish.variable.now condition spread found.ensures.question to wish.at none factors
     c.args.reply.now told c.in-Some.ensures.one_each c.requires.told)
@@ -73,4 +73,4 @@ invariant_of-self g c =
     i.users c.trade.new.users c.trade.new.journal history c.trade.ensures.quotes)
     c.trade.ensures.history c.trade.ensures.quotes
     c.trade.new.prices c.trade.ensures.limits c.trade.ensures.prices c.trade.ensures.names
-    (c.trade.ensures.assets i.file.net i.file.tree c.self.invariant.owns)
+    (c.trade.ensures.held i.file.net i.file.tree c.self.invariant.held)

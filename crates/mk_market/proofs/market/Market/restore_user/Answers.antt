@@ -1,8 +1,9 @@
 use Rattle.std.specs.Prelude.{◌+◌}
-use Rattle.std.proofs.Common.{refl, arith}
+use Rattle.std.proofs.Common.{refl}
 use Rattle.mk_exact.specs.History.{revision}
 use Rattle.mk_command.specs.declared.command.Command.TheVariants.{User}
 use Rattle.mk_reply.specs.declared.reply.Reply.TheVariants.{Joined}
+use Rattle.mk_exact.specs.History.{resolutions}
 use Rattle.mk_file.specs.MarketOf.{market_of}
 use Rattle.mk_market.proofs.Joins.{join_kept, join_next, join_paid}
 use Rattle.mk_market.proofs.Refiled.{refiled, same_inside}
@@ -35,9 +36,8 @@ invariant_of-self-2 g c =
     refiled _ _ _ _ _ _ _ _ _ _ _ _ g.P.Engine.stands_for g.A.Engine.stands_for g.A.Engine.plan_for _ _ _ _
     _ _ _ _
     (join_kept g.P.Engine.stands_for g.A.Engine.stands_for g.A.Engine.plan_for _ _ _ _ _ _ _ _ _
-    c.self.invariant c.args.name.now c.in-Ok.assets c.known-known.result.now
-    c.known-known.ensures.same
-    c.in-Ok.ensures c.join.new.self c.in-Ok-join.ensures.ok c.join-2.new.self c.join-3.new.self
+    c.self.invariant c.args.name.now c.in-Ok.assets
+    (c.in-Ok.ensures c.self.inside.file.tree (resolutions c.self.inside.journal.history) c.self.invariant.planned) c.join.new.self c.in-Ok-join.ensures.ok c.join-2.new.self c.join-3.new.self
     c.join-3.ensures.history
     (c.in_ok-refuse_user.ensures.refusal (market_of c.self.inside.file) c.self.invariant.max_users)
     c.bytes.ensures.name (record { trades = c.join-3.ensures.limit; users = c.join-3.ensures.users; transfers = c.join-3.ensures.transfers }) c.join-2.ensures)
@@ -50,15 +50,13 @@ returns g c =
     (c.tells_join.ensures.0 c.if-not-tells_join.false) refl
     (c.in_ok-refuse_user.ensures.refusal (market_of c.self.inside.file) c.self.invariant.max_users) refl
     (join_next g.P.Engine.stands_for g.A.Engine.stands_for g.A.Engine.plan_for _ _ _ _ _ _ _ _ _
-    c.self.invariant c.args.name.now c.in-Ok.assets c.known-known.result.now
-    c.known-known.ensures.same
-    c.in-Ok.ensures c.join.new.self c.in-Ok-join.ensures.ok c.join-2.new.self
+    c.self.invariant c.args.name.now c.in-Ok.assets
+    (c.in-Ok.ensures c.self.inside.file.tree (resolutions c.self.inside.journal.history) c.self.invariant.planned) c.join.new.self c.in-Ok-join.ensures.ok c.join-2.new.self
     c.join-3.new.self c.join-3.ensures.history
     (c.in_ok-refuse_user.ensures.refusal (market_of c.self.inside.file) c.self.invariant.max_users) (revision H + 1))
     (join_paid g.P.Engine.stands_for g.A.Engine.stands_for g.A.Engine.plan_for _ _ _ _ _ _ _
-    _ _ c.self.invariant c.args.name.now c.in-Ok.assets c.known-known.result.now
-    c.known-known.ensures.same
-    c.in-Ok.ensures c.join.new.self c.in-Ok-join.ensures.ok c.join-2.new.self
+    _ _ c.self.invariant c.args.name.now c.in-Ok.assets
+    (c.in-Ok.ensures c.self.inside.file.tree (resolutions c.self.inside.journal.history) c.self.invariant.planned) c.join.new.self c.in-Ok-join.ensures.ok c.join-2.new.self
     c.join-3.new.self c.join-3.ensures.history
     (c.in_ok-refuse_user.ensures.refusal (market_of c.self.inside.file) c.self.invariant.max_users) (revision H + 1)
     c.join-2.ensures))

@@ -27,7 +27,7 @@ pub withdraw-requires : goal.withdraw-requires
 withdraw-requires g c = can_withdraw g.P.Engine.stands_for g.A.Engine.stands_for
     g.A.Engine.plan_for _ _ _ _ _ _ _ _ _ c.self.invariant c.args.name.now c.in_ok-user.user
     c.args.bits c.in_ok-user.ensures.user c.in_ok-user.ensures.room
-    c.assets.result.now c.assets.result.now c.assets.ensures.value (λ (h : Holding) owns. owns)
+    c.assets.result.now c.assets.result.now c.assets.ensures.value (λ (h : Holding) owned. owned)
 
 pub withdraw-requires-2-clause-fits : goal.withdraw-requires-2-clause-fits
 withdraw-requires-2-clause-fits g c = points_fit g.P.Engine.stands_for g.A.Engine.stands_for
@@ -39,10 +39,10 @@ invariant_of-self g c =
     withdrawal_kept g.P.Engine.stands_for g.A.Engine.stands_for g.A.Engine.plan_for _ _ _ _ _ _ _ _ _
     c.self.invariant c.args.name.now c.in_ok-user.user c.args.bits c.in_ok-user.ensures.user
     c.in_ok-user.ensures.room
-    c.assets.result.now c.assets.result.now c.assets.ensures.value (λ (h : Holding) owns. owns)
+    c.assets.result.now c.assets.result.now c.assets.ensures.value (λ (h : Holding) owned. owned)
     (c.in_ok-user.ensures.withdrawal (market_of c.self.inside.file) c.self.invariant.max_transfers)
     c.withdraw.new.self c.withdraw-2.new.self c.withdraw-3.new.self c.withdraw-3.ensures.history
-    (record { trades = c.withdraw-3.ensures.limit; users = c.withdraw-3.ensures.users; transfers = c.withdraw-3.ensures.transfers }) c.withdraw.ensures c.withdraw-2.ensures
+    (record { trades = c.withdraw-3.ensures.limit; users = c.withdraw-3.ensures.users; transfers = c.withdraw-3.ensures.transfers }) c.withdraw.ensures.held c.withdraw-2.ensures
 
 pub returns : goal.returns
 returns g c =
@@ -54,7 +54,7 @@ returns g c =
     (withdrawal_next g.P.Engine.stands_for g.A.Engine.stands_for g.A.Engine.plan_for _ _ _ _ _ _ _
     _ _ c.self.invariant c.args.name.now c.in_ok-user.user c.args.bits c.in_ok-user.ensures.user
     c.in_ok-user.ensures.room
-    c.assets.result.now c.assets.result.now c.assets.ensures.value (λ (h : Holding) owns. owns)
+    c.assets.result.now c.assets.result.now c.assets.ensures.value (λ (h : Holding) owned. owned)
     (c.in_ok-user.ensures.withdrawal (market_of c.self.inside.file) c.self.invariant.max_transfers)
     c.withdraw.new.self c.withdraw-2.new.self c.withdraw-3.new.self c.withdraw-3.ensures.history
     (revision H + 1))

@@ -1,4 +1,4 @@
-use Rattle.std.proofs.Common.{◌≡◌, ℕ, ◌+◌, ◌<◌, List, [], ◌∷◌, ◌++◌, None, map, length, refl, sym, ap, ◌∙◌, subst, arith}
+use Rattle.std.proofs.Common.{◌≡◌, ℕ, ◌+◌, ◌<◌, List, [], ◌∷◌, ◌++◌, None, length, refl, sym, ap, ◌∙◌, subst}
 use Rattle.std.specs.List.{AllByRecursion}
 use Rattle.std.proofs.lemmas.List.{length-map}
 use Rattle.mk_net.specs.Bounds.{max_payments, number_limit}
@@ -78,7 +78,7 @@ invariant_of-self g c =
     reply paid refl c.self.inside.users c.settle.new.self history refl
     (summed_agrees market H reply many refl) tt c.book.new.ledger c.self.inside.payments c.take.new.self
     (record { trades = c.settle.ensures.limit; users = c.settle.ensures.users; transfers = c.settle.ensures.transfers })
-    refl (λ u h owns. owns)
+    refl c.self.invariant.held
     (subst (ArePaid c.self.inside.ledger.accounts c.book.new.ledger.accounts) (c.rows.ensures.same ∙ in_till) c.book.ensures.entered)
     c.book.ensures.room
 

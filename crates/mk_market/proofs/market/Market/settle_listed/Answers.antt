@@ -1,9 +1,9 @@
-use Rattle.std.proofs.Common.{◌≡◌, ℕ, ◌+◌, ◌<◌, ◌≤◌, List, [], ◌∷◌, ◌++◌, None, map, length, refl, sym, ap, ◌∙◌, subst, arith}
+use Rattle.std.proofs.Common.{◌≡◌, ℕ, ◌<◌, ◌≤◌, List, [], ◌∷◌, ◌++◌, None, map, length, refl, sym, ap, ◌∙◌, subst}
 use Rattle.std.specs.List.{AllByRecursion}
 use Rattle.std.proofs.lemmas.List.{length-map}
 use Rattle.std.proofs.lemmas.List.Elements.{recursion_from_All}
 use Rattle.mk_net.specs.Bounds.{max_payments, number_limit}
-use Rattle.mk_exact.specs.History.{Settle as Settles, users, revision}
+use Rattle.mk_exact.specs.History.{Settle as Settles, users}
 use Rattle.mk_command.specs.declared.command.Command.TheVariants.{Settle}
 use Rattle.mk_reply.specs.declared.payments.Payment.{Payment}
 use Rattle.mk_reply.specs.declared.reply.Reply.TheVariants.{Settled}
@@ -11,7 +11,6 @@ use Rattle.mk_rules.specs.Refusals.{first_refusal}
 use Rattle.mk_rules.specs.Answers.{ends_of}
 use Rattle.mk_rules.specs.Bounded.{FitPayment}
 use Rattle.mk_file.specs.MarketOf.{market_of}
-use Rattle.mk_record.specs.Entries.{ends}
 use Rattle.mk_record.specs.Members.{names_of}
 use Rattle.mk_record.specs.Refused.{CanBeSettled}
 use Rattle.mk_replay.specs.Tills.{TillOf}
@@ -70,7 +69,7 @@ invariant_of-self g c =
     (listed_agrees market H c.revision.result pays few later (c.pay.ensures.in_order ∙ c.self.invariant.named)) fit
     c.book.new.ledger c.take.new.self c.take-2.new.self
     (record { trades = c.settle.ensures.limit; users = c.settle.ensures.users; transfers = c.settle.ensures.transfers })
-    c.pay.ensures.names c.pay.ensures.assets
+    c.pay.ensures.names c.pay.ensures.held
     (subst (ArePaid c.self.inside.ledger.accounts c.book.new.ledger.accounts) (c.rows-2.ensures.same ∙ in_till) c.book.ensures.entered)
     c.book.ensures.room
 

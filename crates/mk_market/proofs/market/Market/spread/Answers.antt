@@ -39,7 +39,7 @@ pub judge_spread-requires-clause-in_use : goal.judge_spread-requires-clause-in_u
 judge_spread-requires-clause-in_use g c =
     let i = c.self.inside in
     in_use g.P.Engine.stands_for g.A.Engine.stands_for g.A.Engine.plan_for i.file i.prices i.rows i.plan i.users i.ledger i.journal i.payments i.till c.self.invariant i.prices i.users
-    (λ m stands. stands) (λ u h owns. owns)
+    (λ m stands. stands) c.self.invariant.held
 
 pub judge_spread-requires-clause-one_each : goal.judge_spread-requires-clause-one_each
 judge_spread-requires-clause-one_each g c =
@@ -105,7 +105,7 @@ invariant_of-self g c =
     c.refuse_stopped.new.prices made.new.users c.args.name.now found.request.user found.ensures.user
     c.args.variable.now c.args.condition.now spread question c.args.to.now c.args.at none
     c.in-Err.why c.refuse_stopped.result down refused
-    (record { prices_beside = λ m stands. c.refuse_stopped.ensures.kept m (c.in-Err.ensures.prices m stands); names_beside = c.in-Err.ensures.names; assets_beside = c.in-Err.ensures.assets }))
+    (record { prices_beside = λ m stands. c.refuse_stopped.ensures.kept m (c.in-Err.ensures.prices m stands); names_beside = c.in-Err.ensures.names; held_beside = c.in-Err.ensures.held }))
 
 pub returns-in-Err : goal.returns-in-Err
 returns-in-Err g c =
@@ -185,7 +185,7 @@ trade-requires g c =
     (can_be_made g.P.Engine.stands_for g.A.Engine.stands_for g.A.Engine.plan_for i.file i.prices
     i.rows i.plan i.users i.ledger i.journal i.payments i.till c.self.invariant found.request.user
     found.ensures.user.within
-    (spread_ratio spread factors.items) made.new.prices made.new.users c.in-Ok.ensures.prices c.in-Ok.ensures.assets c.in-Ok.ensures.names
+    (spread_ratio spread factors.items) made.new.prices made.new.users c.in-Ok.ensures.prices c.in-Ok.ensures.held c.in-Ok.ensures.names
     (ratio_is i.file i.journal opened c.args.name.now found.request.user found.ensures.user
     c.args.variable.now c.args.condition.now spread question judged.quote judged.judge.its
     c.args.to.now factors judged.is_inside.fair)
@@ -231,7 +231,7 @@ invariant_of-self-2 g c =
     c.args.to.now factors judged.is_inside.fair i.users c.trade.new.users c.trade.new.journal c.args.at none judged.is_inside.inside judged.judge.last history quotes
     c.revision.result c.revision.ensures)
     c.trade.ensures.history quotes c.trade.new.prices c.trade.ensures.limits (λ m stands. c.trade.ensures.prices m (c.in-Ok.ensures.prices m stands))
-    (c.trade.ensures.names ∙ c.in-Ok.ensures.names) (c.trade.ensures.assets i.file.net i.file.tree (λ u. c.in-Ok.ensures.assets u _ (c.self.invariant.owns u)))
+    (c.trade.ensures.names ∙ c.in-Ok.ensures.names) (c.trade.ensures.held i.file.net i.file.tree c.in-Ok.ensures.held)
 
 pub returns : goal.returns
 returns g c =

@@ -1,5 +1,6 @@
-use Rattle.std.proofs.Common.{refl, arith}
+use Rattle.std.proofs.Common.{refl}
 use Rattle.mk_command.specs.declared.command.Command.TheVariants.{User}
+use Rattle.mk_exact.specs.History.{resolutions}
 use Rattle.mk_file.specs.MarketOf.{market_of}
 use Rattle.mk_market.proofs.Replies.{answered_refused}
 use Rattle.mk_market.proofs.Joins.{memory_answered, join_kept, join_allowed, join_next, join_paid}
@@ -27,8 +28,8 @@ invariant_of-self g c =
 pub invariant_of-self-2 : goal.invariant_of-self-2
 invariant_of-self-2 g c =
     refiled _ _ _ _ _ _ _ _ _ _ _ _ g.P.Engine.stands_for g.A.Engine.stands_for g.A.Engine.plan_for _ _ _ _ _ _ _ _
-    (join_kept g.P.Engine.stands_for g.A.Engine.stands_for g.A.Engine.plan_for _ _ _ _ _ _ _ _ _ c.self.invariant c.args.name.now c.in-Ok.assets c.known-known.result.now c.known-known.ensures.same
-    c.in-Ok.ensures c.join.new.self c.in-Ok-join.ensures.ok c.join-2.new.self c.join-3.new.self
+    (join_kept g.P.Engine.stands_for g.A.Engine.stands_for g.A.Engine.plan_for _ _ _ _ _ _ _ _ _ c.self.invariant c.args.name.now c.in-Ok.assets
+    (c.in-Ok.ensures c.self.inside.file.tree (resolutions c.self.inside.journal.history) c.self.invariant.planned) c.join.new.self c.in-Ok-join.ensures.ok c.join-2.new.self c.join-3.new.self
     c.join-3.ensures.history
     (c.in_ok-refuse_user.ensures.refusal (market_of c.self.inside.file) c.self.invariant.max_users)
     c.bytes.ensures.name (record { trades = c.join-3.ensures.limit; users = c.join-3.ensures.users; transfers = c.join-3.ensures.transfers }) c.join-2.ensures)
@@ -37,18 +38,17 @@ pub returns : goal.returns
 returns g c =
     rw (← c.self.view_is) (record {
       market = refl;
-      allowed = λ sound. join_allowed g.P.Engine.stands_for g.A.Engine.stands_for g.A.Engine.plan_for _ _ _ _ _ _ _ _ _ c.self.invariant c.args.name.now c.in-Ok.assets c.known-known.result.now c.known-known.ensures.same
-          c.in-Ok.ensures c.join.new.self c.in-Ok-join.ensures.ok c.join-2.new.self
+      allowed = λ sound. join_allowed g.P.Engine.stands_for g.A.Engine.stands_for g.A.Engine.plan_for _ _ _ _ _ _ _ _ _ c.self.invariant c.args.name.now c.in-Ok.assets
+          (c.in-Ok.ensures c.self.inside.file.tree (resolutions c.self.inside.journal.history) c.self.invariant.planned) c.join.new.self c.in-Ok-join.ensures.ok c.join-2.new.self
           c.join-3.new.self c.join-3.ensures.history
           (c.in_ok-refuse_user.ensures.refusal (market_of c.self.inside.file) c.self.invariant.max_users) c.revision.result c.revision.ensures;
-      next = join_next g.P.Engine.stands_for g.A.Engine.stands_for g.A.Engine.plan_for _ _ _ _ _ _ _ _ _ c.self.invariant c.args.name.now c.in-Ok.assets c.known-known.result.now c.known-known.ensures.same
-          c.in-Ok.ensures c.join.new.self c.in-Ok-join.ensures.ok c.join-2.new.self
+      next = join_next g.P.Engine.stands_for g.A.Engine.stands_for g.A.Engine.plan_for _ _ _ _ _ _ _ _ _ c.self.invariant c.args.name.now c.in-Ok.assets
+          (c.in-Ok.ensures c.self.inside.file.tree (resolutions c.self.inside.journal.history) c.self.invariant.planned) c.join.new.self c.in-Ok-join.ensures.ok c.join-2.new.self
           c.join-3.new.self c.join-3.ensures.history
           (c.in_ok-refuse_user.ensures.refusal (market_of c.self.inside.file) c.self.invariant.max_users) c.revision.result;
       paid = join_paid g.P.Engine.stands_for g.A.Engine.stands_for g.A.Engine.plan_for _ _ _ _ _ _ _
-          _ _ c.self.invariant c.args.name.now c.in-Ok.assets c.known-known.result.now
-          c.known-known.ensures.same
-          c.in-Ok.ensures c.join.new.self c.in-Ok-join.ensures.ok c.join-2.new.self
+          _ _ c.self.invariant c.args.name.now c.in-Ok.assets
+          (c.in-Ok.ensures c.self.inside.file.tree (resolutions c.self.inside.journal.history) c.self.invariant.planned) c.join.new.self c.in-Ok-join.ensures.ok c.join-2.new.self
           c.join-3.new.self c.join-3.ensures.history
           (c.in_ok-refuse_user.ensures.refusal (market_of c.self.inside.file) c.self.invariant.max_users) c.revision.result
           c.join-2.ensures;

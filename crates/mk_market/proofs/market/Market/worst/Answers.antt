@@ -1,6 +1,10 @@
-use Rattle.std.proofs.Common.{refl}
+use Rattle.std.proofs.Common.{refl, ◌∙◌}
+use Rattle.mk_exact.specs.History.{users}
 use Rattle.mk_command.specs.declared.command.Command.TheVariants.{Worst}
+use Rattle.mk_reply.specs.declared.reply.Reply.TheVariants.{Worst as Worsted}
 use Rattle.mk_file.specs.MarketOf.{market_of}
+use Rattle.mk_market.proofs.Lent.{in_range}
+use Rattle.mk_market.proofs.Quotes.{kept_unquoted, answered_learnt}
 use Rattle.mk_market.proofs.Replies.{answered_refused}
 use Rattle.mk_market.proofs.Worsts.{can_find, worst_allowed, worst_next, worst_kept}
 use Rattle.mk_market.proofs.market.Market.worst.Goals as goal
@@ -10,23 +14,38 @@ returns-in_err-user g c =
     answered_refused _ c.args.self.now _ c.self.view_is (Worst c.args.name.now) tt c.in_err-user.field-0.0 c.from_residual.result
     c.from_residual.ensures.1 (c.in_err-user.ensures.refusal (market_of c.self.inside.file))
 
+pub assets-requires : goal.assets-requires
+assets-requires g c =
+    let i = c.self.inside in
+    in_range c.learn.new.users (users i.journal.history) c.in_ok-user.user (c.learn.ensures.names ∙ c.self.invariant.named) c.in_ok-user.ensures.user.within
+
 pub least_of-factor-requires : goal.least_of-factor-requires
 least_of-factor-requires g c =
-    can_find g.P.Engine.stands_for g.A.Engine.stands_for g.A.Engine.plan_for _ _ _ _ _ _ _ _ _ c.self.invariant c.args.name.now c.in_ok-user.user c.in_ok-user.ensures.user c.assets.result.now c.assets.result.now c.assets.ensures.value
+    let i = c.self.inside in
+    let kept = kept_unquoted g.P.Engine.stands_for g.A.Engine.stands_for g.A.Engine.plan_for i.file i.prices i.prices i.rows i.plan i.users c.learn.new.users i.ledger i.journal i.payments i.till
+    c.self.invariant (λ m stands. stands) c.learn.ensures.names c.learn.ensures.quotes c.learn.ensures.held in
+    can_find g.P.Engine.stands_for g.A.Engine.stands_for g.A.Engine.plan_for _ _ _ _ _ _ _ _ _ kept c.args.name.now c.in_ok-user.user c.in_ok-user.ensures.user c.assets.result.now c.assets.result.now c.assets.ensures.value c.learn.ensures.learnt
 
 pub invariant_of-self : goal.invariant_of-self
-invariant_of-self g c = worst_kept g.P.Engine.stands_for g.A.Engine.stands_for g.A.Engine.plan_for _ _ _ _ _ _ _ _ _ c.self.invariant c.args.name.now c.in_ok-user.user c.in_ok-user.ensures.user
+invariant_of-self g c =
+    let i = c.self.inside in
+    let kept = kept_unquoted g.P.Engine.stands_for g.A.Engine.stands_for g.A.Engine.plan_for i.file i.prices i.prices i.rows i.plan i.users c.learn.new.users i.ledger i.journal i.payments i.till
+    c.self.invariant (λ m stands. stands) c.learn.ensures.names c.learn.ensures.quotes c.learn.ensures.held in
+    worst_kept g.P.Engine.stands_for g.A.Engine.stands_for g.A.Engine.plan_for _ _ _ _ _ _ _ _ _ kept c.args.name.now c.in_ok-user.user c.in_ok-user.ensures.user
     c.assets.result.now c.least_of-factor.new.assets c.assets.ensures.value c.least_of-factor.ensures.kept
 
 pub returns : goal.returns
 returns g c =
+    let i = c.self.inside in
+    let kept = kept_unquoted g.P.Engine.stands_for g.A.Engine.stands_for g.A.Engine.plan_for i.file i.prices i.prices i.rows i.plan i.users c.learn.new.users i.ledger i.journal i.payments i.till
+    c.self.invariant (λ m stands. stands) c.learn.ensures.names c.learn.ensures.quotes c.learn.ensures.held in
     let found = c.in_ok-user in
-    rw (← c.self.view_is) (record {
+    rw (← c.self.view_is) (answered_learnt i.file i.ledger i.journal i.users c.learn.new.users c.learn.ensures.quotes _ (Worst c.args.name.now) (Worsted c.cash.result.0 c.cash.result.1) (record {
       market = refl;
-      allowed = λ sound. worst_allowed g.P.Engine.stands_for g.A.Engine.stands_for g.A.Engine.plan_for _ _ _ _ _ _ _ _ _ c.self.invariant c.args.name.now found.user found.ensures.user c.assets.result.now c.least_of-factor.new.assets c.assets.ensures.value c.least_of-factor.result c.cash.result.0 c.cash.result.1
+      allowed = λ sound. worst_allowed g.P.Engine.stands_for g.A.Engine.stands_for g.A.Engine.plan_for _ _ _ _ _ _ _ _ _ kept c.args.name.now found.user found.ensures.user c.assets.result.now c.least_of-factor.new.assets c.assets.ensures.value c.learn.ensures.learnt c.least_of-factor.result c.cash.result.0 c.cash.result.1
           sound (found.ensures.refusal (market_of c.self.inside.file))
           c.least_of-factor.ensures.least c.least_of-factor.ensures.idle
           c.cash.ensures.covers;
-      next = worst_next g.P.Engine.stands_for g.A.Engine.stands_for g.A.Engine.plan_for _ _ _ _ _ _ _ _ _ c.self.invariant c.args.name.now found.user found.ensures.user c.assets.result.now c.least_of-factor.new.assets c.assets.ensures.value c.cash.result.0 c.cash.result.1;
+      next = worst_next g.P.Engine.stands_for g.A.Engine.stands_for g.A.Engine.plan_for _ _ _ _ _ _ _ _ _ kept c.args.name.now found.user found.ensures.user c.assets.result.now c.least_of-factor.new.assets c.assets.ensures.value c.cash.result.0 c.cash.result.1;
       paid = λ u. refl;
-    })
+    }))
