@@ -18,7 +18,7 @@ use mk_answers::{
 use mk_enclose::{Enclosure, Factor};
 use mk_engine::{Engine, TreeGraded};
 use mk_judge::PriceBounds;
-use mk_market::{Market, refuse_condition};
+use mk_market::{Market, learn, refuse_condition};
 use mk_net::{Name, PairText, QuestionText};
 use mk_record::{
     not_settled, refuse_bounds, refuse_price, refuse_prices, refuse_transfer, refuse_worst,
@@ -79,6 +79,7 @@ pub fn worst_evidence<P: TreeGraded<SumProd>, A: TreeGraded<MinProd>>(
         (IsWorstEvidence market.old.market (market.old.standing).history name.now) }
 {
     let user = refuse_worst(&market.journal, &market.users, name)?;
+    learn(&mut market.users, &market.file, &market.journal, user);
     Ok(least_of(market.users.assets(user)))
 }
 
@@ -94,6 +95,7 @@ pub fn withdrawal_evidence<P: TreeGraded<SumProd>, A: TreeGraded<MinProd>>(
         (IsWorstEvidence market.old.market (market.old.standing).history name.now) }
 {
     let user = refuse_transfer(&market.journal, &market.users, name, bits)?;
+    learn(&mut market.users, &market.file, &market.journal, user);
     Ok(least_of(market.users.assets(user)))
 }
 
@@ -120,6 +122,12 @@ pub fn position_evidence<P: TreeGraded<SumProd>, A: TreeGraded<MinProd>>(
         variable,
         words,
     )?;
+    learn(
+        &mut market.users,
+        &market.file,
+        &market.journal,
+        request.user,
+    );
     match sure_factors_of(
         market.users.assets(request.user),
         &market.file.net,
@@ -154,6 +162,7 @@ pub fn payment_evidence<P: TreeGraded<SumProd>, A: TreeGraded<MinProd>>(
     ensures evidence { IsPaymentEvidence market.old.market (market.old.standing).history user
         result }
 {
+    learn(&mut market.users, &market.file, &market.journal, user);
     least_of(market.users.assets(user))
 }
 

@@ -1,14 +1,11 @@
 //! Bounds of both sides of a question, by which an auditor judges its limits and its edits.
 
-ghost use Rattle.std.specs.Prelude.{◌≡◌, ℕ, List, MatchResult};
+ghost use Rattle.std.specs.Prelude.{◌≡◌, MatchResult};
 ghost use Rattle.mk_command.specs.declared.command.Command.TheVariants as command;
-ghost use Rattle.mk_exact.specs.History.{Entry};
 ghost use Rattle.mk_engine.specs.Meaning.{Meaning};
-ghost use Rattle.mk_assets.specs.Holdings.{Holding};
-ghost use Rattle.mk_answers.specs.Open.{CanBeAnswered};
 ghost use Rattle.mk_record.specs.Members.{names_of, quotes_of};
 ghost use Rattle.mk_evidence.specs.inner.Finding.{CanFindBoth, AreBothFound};
-ghost use Rattle.mk_market.specs.inner.Quoting.{OwnsAt, AreInUse};
+ghost use Rattle.mk_market.specs.inner.Keeping.{AreHeld};
 ghost use Rattle.mk_market.specs.inner.Stopped.{IsDecidedBy};
 ghost use Rattle.mk_evidence.specs.Grades.{evidence_grade};
 ghost use Rattle.mk_file.specs.MarketOf.{market_of};
@@ -17,10 +14,10 @@ ghost use Rattle.mk_evidence.specs.Evidence.{IsAskedFor, IsEditEvidence};
 use mk_answers::{Sides, bounds_of};
 use mk_engine::TreeGraded;
 use mk_file::MarketFile;
-use mk_market::{Decided, Market, refuse_decided};
+use mk_market::{Decided, Market, learn, refuse_decided};
 use mk_net::{Name, Question, QuestionText};
 use mk_quote::Bounds;
-use mk_record::{EditWish, Request, Users, refuse_edit, refuse_limits};
+use mk_record::{EditWish, Journal, Request, Users, refuse_edit, refuse_limits};
 use mk_reply::Refusal;
 use mk_semiring::{MinProd, SumProd};
 
@@ -33,33 +30,32 @@ pub struct EditEvidence {
     pub bounds: Bounds,
 }
 
-/// The bounds of both sides of a request's question, or what decides the question. The engine and
-/// the assets stand for what they stood for.
+/// The bounds of both sides of a request's question, or what decides the question. The engine
+/// stands for what it stood for, and the user's assets learn what is known.
 fn edit_bounds<P: TreeGraded<SumProd>, A: TreeGraded<MinProd>>(
     file: &MarketFile,
     prices: &mut P,
     users: &mut Users<A>,
+    journal: &Journal,
     request: &Request,
 ) -> Result<Bounds, Decided>
-    requires { CanFindBoth P.stands_for A.stands_for file.now prices.old users.old request.now }
+    requires { CanFindBoth P.stands_for A.stands_for file.now journal.now.history prices.old
+        users.old request.now }
     ensures prices { (m : Meaning) → P.stands_for prices.old m → P.stands_for prices.new m }
-    ensures assets { (u : ℕ) (h : Holding) → OwnsAt A.stands_for users.old u h
-        → OwnsAt A.stands_for users.new u h }
+    ensures held { AreHeld A.stands_for file.now.net file.now.tree journal.now.history users.new }
     ensures names { names_of users.new ≡ names_of users.old }
     ensures quotes { quotes_of users.new ≡ quotes_of users.old }
-    ensures bounds { (H : List Entry)
-        → AreInUse P.stands_for A.stands_for file.now.net file.now.tree H prices.old users.old
-        → CanBeAnswered file.now.net file.now.tree H request.now.question
-        → MatchResult result
-        (λ bounds. AreBothFound (evidence_grade (market_of file.now) H) file.now.net H
-        request.now.user request.now.question bounds)
-        (λ why. IsDecidedBy file.now.net H request.now.question why) }
+    ensures bounds { MatchResult result
+        (λ bounds. AreBothFound (evidence_grade (market_of file.now) journal.now.history)
+        file.now.net journal.now.history request.now.user request.now.question bounds)
+        (λ why. IsDecidedBy file.now.net journal.now.history request.now.question why) }
 {
     let Request {
         user,
         question,
         home,
     } = *request;
+    learn(users, file, journal, user);
     match bounds_of(prices, users.assets(user), &file.net, home, &question) {
         Sides::Open(bounds) => Ok(bounds),
         Sides::Impossible => Err(Decided::Impossible),
@@ -85,6 +81,7 @@ pub fn limits_evidence<P: TreeGraded<SumProd>, A: TreeGraded<MinProd>>(
         &market.file,
         &mut market.prices,
         &mut market.users,
+        &market.journal,
         &request,
     ) {
         Ok(bounds) => Ok(EditEvidence {
@@ -117,6 +114,7 @@ pub fn edit_evidence<P: TreeGraded<SumProd>, A: TreeGraded<MinProd>>(
         &market.file,
         &mut market.prices,
         &mut market.users,
+        &market.journal,
         &request,
     ) {
         Ok(bounds) => Ok(EditEvidence {

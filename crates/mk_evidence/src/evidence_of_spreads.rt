@@ -1,17 +1,14 @@
 //! Bounds of each value of a variable, by which an auditor judges its bounds and its spreads.
 
-ghost use Rattle.std.specs.Prelude.{◌≡◌, ℕ, List, length, slice_index, MatchResult};
+ghost use Rattle.std.specs.Prelude.{◌≡◌, length, slice_index, MatchResult};
 ghost use Rattle.mk_net.specs.Network.{sizes};
 ghost use Rattle.mk_command.specs.declared.command.Command.TheVariants as command;
-ghost use Rattle.mk_exact.specs.History.{Entry};
 ghost use Rattle.mk_engine.specs.Meaning.{Meaning};
-ghost use Rattle.mk_assets.specs.Holdings.{Holding};
 ghost use Rattle.mk_quote.specs.Questions.{spread_in};
-ghost use Rattle.mk_answers.specs.Open.{CanBeSpreadHere};
 ghost use Rattle.mk_record.specs.Members.{names_of, quotes_of};
 ghost use Rattle.mk_evidence.specs.inner.Finding.{CanFindEach, AreEachFound, ArePlacedBounds};
 ghost use Rattle.mk_evidence.specs.inner.Finding.{IsStoppedAnew};
-ghost use Rattle.mk_market.specs.inner.Quoting.{OwnsAt, AreInUse};
+ghost use Rattle.mk_market.specs.inner.Keeping.{AreHeld};
 ghost use Rattle.mk_market.specs.inner.Stopped.{IsSpreadDecidedBy};
 ghost use Rattle.mk_evidence.specs.Grades.{evidence_grade};
 ghost use Rattle.mk_file.specs.MarketOf.{market_of};
@@ -21,7 +18,7 @@ use arrayvec::ArrayVec;
 use mk_answers::{SpreadSides, spread_bounds_of};
 use mk_engine::TreeGraded;
 use mk_file::MarketFile;
-use mk_market::{Market, SpreadDecided, Stopped, refuse_stopped};
+use mk_market::{Market, SpreadDecided, Stopped, learn, refuse_stopped};
 use mk_net::{Name, PairText};
 use mk_quote::{SpreadBounds, SpreadQuestion, SpreadQuote};
 use mk_record::{Journal, SpreadRequest, SpreadWish, Users, refuse_bounds, refuse_spread};
@@ -37,33 +34,33 @@ pub struct SpreadEvidence {
     pub bounds: SpreadBounds,
 }
 
-/// The bounds of each value that a request asks about, or what decides the question. The engine and
-/// the assets stand for what they stood for.
+/// The bounds of each value that a request asks about, or what decides the question. The engine
+/// stands for what it stood for, and the user's assets learn what is known.
 fn spread_bounds<P: TreeGraded<SumProd>, A: TreeGraded<MinProd>>(
     file: &MarketFile,
     prices: &mut P,
     users: &mut Users<A>,
+    journal: &Journal,
     request: &SpreadRequest,
 ) -> Result<SpreadBounds, SpreadDecided>
-    requires { CanFindEach P.stands_for A.stands_for file.now prices.old users.old request.now }
+    requires { CanFindEach P.stands_for A.stands_for file.now journal.now.history prices.old
+        users.old request.now }
     ensures prices { (m : Meaning) → P.stands_for prices.old m → P.stands_for prices.new m }
-    ensures assets { (u : ℕ) (h : Holding) → OwnsAt A.stands_for users.old u h
-        → OwnsAt A.stands_for users.new u h }
+    ensures held { AreHeld A.stands_for file.now.net file.now.tree journal.now.history users.new }
     ensures names { names_of users.new ≡ names_of users.old }
     ensures quotes { quotes_of users.new ≡ quotes_of users.old }
-    ensures bounds { (H : List Entry)
-        → AreInUse P.stands_for A.stands_for file.now.net file.now.tree H prices.old users.old
-        → CanBeSpreadHere file.now.net file.now.tree H (spread_in request.now.question)
-        → MatchResult result
-        (λ bounds. AreEachFound (evidence_grade (market_of file.now) H) file.now.net H
-        request.now.user (spread_in request.now.question) bounds)
-        (λ why. IsSpreadDecidedBy file.now.net H (spread_in request.now.question) why) }
+    ensures bounds { MatchResult result
+        (λ bounds. AreEachFound (evidence_grade (market_of file.now) journal.now.history)
+        file.now.net journal.now.history request.now.user (spread_in request.now.question) bounds)
+        (λ why. IsSpreadDecidedBy file.now.net journal.now.history
+        (spread_in request.now.question) why) }
 {
     let SpreadRequest {
         user,
         question,
         home,
     } = *request;
+    learn(users, file, journal, user);
     match spread_bounds_of(prices, users.assets(user), &file.net, home, &question) {
         SpreadSides::Open(bounds) => Ok(bounds),
         SpreadSides::Impossible => Err(SpreadDecided::Impossible),
@@ -81,17 +78,12 @@ fn placed_bounds<P: TreeGraded<SumProd>, A: TreeGraded<MinProd>>(
     request: &SpreadRequest,
     shares: &[u32],
 ) -> Result<SpreadBounds, Stopped>
-    requires found { CanFindEach P.stands_for A.stands_for file.now prices.old users.old
-        request.now }
-    requires in_use { AreInUse P.stands_for A.stands_for file.now.net file.now.tree
-        journal.now.history prices.old users.old }
-    requires answered { CanBeSpreadHere file.now.net file.now.tree journal.now.history
-        (spread_in request.now.question) }
+    requires found { CanFindEach P.stands_for A.stands_for file.now journal.now.history prices.old
+        users.old request.now }
     requires one_each { length shares.now ≡ slice_index (sizes file.now.net)
         request.now.question.variable }
     ensures prices { (m : Meaning) → P.stands_for prices.old m → P.stands_for prices.new m }
-    ensures assets { (u : ℕ) (h : Holding) → OwnsAt A.stands_for users.old u h
-        → OwnsAt A.stands_for users.new u h }
+    ensures held { AreHeld A.stands_for file.now.net file.now.tree journal.now.history users.new }
     ensures names { names_of users.new ≡ names_of users.old }
     ensures quotes { quotes_of users.new ≡ quotes_of users.old }
     ensures placed { MatchResult result
@@ -101,7 +93,7 @@ fn placed_bounds<P: TreeGraded<SumProd>, A: TreeGraded<MinProd>>(
         (λ why. IsStoppedAnew file.now.net file.now.tree journal.now.history request.now.user
         (spread_in request.now.question) shares.now why) }
 {
-    let bounds = match spread_bounds(file, prices, users, request) {
+    let bounds = match spread_bounds(file, prices, users, journal, request) {
         Ok(bounds) => bounds,
         Err(why) => return Err(Stopped::Decided(why)),
     };
@@ -141,6 +133,7 @@ pub fn bounds_evidence<P: TreeGraded<SumProd>, A: TreeGraded<MinProd>>(
         &market.file,
         &mut market.prices,
         &mut market.users,
+        &market.journal,
         &request,
     ) {
         Ok(bounds) => Ok(SpreadEvidence {

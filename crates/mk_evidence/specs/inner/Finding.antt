@@ -44,23 +44,21 @@ pub record AreEachFound (most : ℕ) (network : List Variable) (H : List Entry) 
       → AreSideBoundsFor (sides_in bounds) (IsSmall network H) sides
   pub bounded : AreSpreadSidesBounded most network H u spread (Open bounds)
 
--- what a call for them asks: a market in use of this file, where the question can be answered in
--- its home
+-- what a call for them asks: a market in use of this file and history, where the question can be
+-- answered in its home
 module _ {P A Plan : Type 0} (weights_stand : P → Meaning → Type 0)
-    (gains_stand : A → Meaning → Type 0) (file : MarketFile) (prices : P)
+    (gains_stand : A → Meaning → Type 0) (file : MarketFile) (H : List Entry) (prices : P)
     (members : List (Member A Plan)) where
   pub record CanFindBoth (request : Request) : Type 0 where
-    pub history : List Entry
-    pub in_use : AreInUse weights_stand gains_stand file.net file.tree history prices members
+    pub in_use : AreInUse weights_stand gains_stand file.net file.tree H prices members
     pub user : request.user < length members
-    pub answered : CanBeAnswered file.net file.tree history request.question
+    pub answered : CanBeAnswered file.net file.tree H request.question
     pub at_home : home file.tree (pairs_asked request.question) ≡ Some request.home
 
   pub record CanFindEach (request : SpreadRequest) : Type 0 where
-    pub history : List Entry
-    pub in_use : AreInUse weights_stand gains_stand file.net file.tree history prices members
+    pub in_use : AreInUse weights_stand gains_stand file.net file.tree H prices members
     pub user : request.user < length members
-    pub answered : CanBeSpreadHere file.net file.tree history (spread_in request.question)
+    pub answered : CanBeSpreadHere file.net file.tree H (spread_in request.question)
     pub at_home : home file.tree (pairs_asked (asked_of (spread_in request.question) 0))
         ≡ Some request.home
 

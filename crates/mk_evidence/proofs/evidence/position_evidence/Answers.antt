@@ -1,5 +1,6 @@
 use Rattle.std.proofs.Common.{le_refl, sym, ap, ◌∙◌}
 use Rattle.mk_command.specs.declared.command.Command.TheVariants.{Position}
+use Rattle.mk_exact.specs.History.{users}
 use Rattle.mk_file.specs.MarketOf.{market_of}
 use Rattle.mk_quote.specs.Questions.{spread_in}
 use Rattle.mk_rules.specs.Refusals.{refusals_by_record, impossible_together}
@@ -13,7 +14,9 @@ use Rattle.mk_evidence.proofs.Evidenced.{asked_refused, same_trading, position_f
 use Rattle.mk_evidence.proofs.Evidenced.{position_stopped}
 use Rattle.mk_market.proofs.EveryValue.{can_refuse_told, known_of, position_kept}
 use Rattle.mk_market.proofs.Growing.{is_open}
+use Rattle.mk_market.proofs.Lent.{in_range}
 use Rattle.mk_market.proofs.Owned.{quotes_same}
+use Rattle.mk_market.proofs.Quotes.{kept_unquoted}
 use Rattle.mk_market.proofs.Refiled.{refiled}
 use Rattle.mk_market.proofs.Replies.{by_record}
 use Rattle.mk_record.proofs.SpreadRefusals.{value_is_held}
@@ -29,6 +32,11 @@ returns-in_err-request-clause-evidence g c =
     (by_record (market_of i.file) i.journal.history command c.in_err-request.field-0.0
     (c.in_err-request.ensures.refusal c.args.condition.now (sym c.as_slice-words.ensures.value)))
 
+pub assets-requires : goal.assets-requires
+assets-requires g c =
+    in_range c.learn.new.users (users c.market.inside.journal.history) c.in_ok-request.request.user
+    (c.learn.ensures.names ∙ c.market.invariant.named) c.in_ok-request.ensures.user.within
+
 pub sure_factors_of-requires : goal.sure_factors_of-requires
 sure_factors_of-requires g c =
     let i = c.market.inside in let found = c.in_ok-request in
@@ -36,7 +44,7 @@ sure_factors_of-requires g c =
       tree = i.file.tree;
       history = i.journal.history;
       user = found.request.user;
-      owns = c.market.invariant.owns found.request.user c.assets.result.now c.assets.ensures.value;
+      owns = c.learn.ensures.learnt c.assets.result.now c.assets.ensures.value;
       is_open = is_open g.P.Engine.stands_for g.A.Engine.stands_for g.A.Engine.plan_for i.file
           i.prices i.rows i.plan i.users i.ledger i.journal i.payments i.till c.market.invariant;
       answered = found.ensures.question.answered;
@@ -46,12 +54,17 @@ sure_factors_of-requires g c =
 
 pub invariant_of-market : goal.invariant_of-market
 invariant_of-market g c =
-    let i = c.market.inside in let found = c.in_ok-request in
+    let i = c.market.inside in
+    let kept = kept_unquoted g.P.Engine.stands_for g.A.Engine.stands_for g.A.Engine.plan_for i.file
+    i.prices i.prices i.rows i.plan i.users c.learn.new.users i.ledger i.journal i.payments i.till
+    c.market.invariant (λ m stands. stands) c.learn.ensures.names c.learn.ensures.quotes
+    c.learn.ensures.held in
+    let found = c.in_ok-request in
     refiled _ _ _ _ _ _ _ _ _ _ _ _ g.P.Engine.stands_for g.A.Engine.stands_for g.A.Engine.plan_for
     _ _ _ _
     _ _ _ _
     (position_kept g.P.Engine.stands_for g.A.Engine.stands_for g.A.Engine.plan_for i.file i.prices
-    i.rows i.plan i.users i.ledger i.journal i.payments i.till c.market.invariant i.prices
+    i.rows i.plan c.learn.new.users i.ledger i.journal i.payments i.till kept i.prices
     (λ m stands. stands) found.request.user
     c.assets.result.now c.sure_factors_of.new.assets c.assets.ensures.value
     c.sure_factors_of.ensures.kept_assets)
@@ -74,17 +87,22 @@ refuse_condition-requires g c =
     c.as_slice-words.ensures.value known)
     found.ensures.question.answered found.request.home found.ensures.home
     (c.in-None.ensures.factors i.file.tree H found.request.user of
-    (c.market.invariant.owns found.request.user c.assets.result.now c.assets.ensures.value)
+    (c.learn.ensures.learnt c.assets.result.now c.assets.ensures.value)
     opened found.ensures.question.answered (le_refl of))
 
 pub invariant_of-market-in-None : goal.invariant_of-market-in-None
 invariant_of-market-in-None g c =
-    let i = c.market.inside in let found = c.in_ok-request in
+    let i = c.market.inside in
+    let kept = kept_unquoted g.P.Engine.stands_for g.A.Engine.stands_for g.A.Engine.plan_for i.file
+    i.prices i.prices i.rows i.plan i.users c.learn.new.users i.ledger i.journal i.payments i.till
+    c.market.invariant (λ m stands. stands) c.learn.ensures.names c.learn.ensures.quotes
+    c.learn.ensures.held in
+    let found = c.in_ok-request in
     refiled _ _ _ _ _ _ _ _ _ _ _ _ g.P.Engine.stands_for g.A.Engine.stands_for g.A.Engine.plan_for
     _ _ _ _
     _ _ _ _
     (position_kept g.P.Engine.stands_for g.A.Engine.stands_for g.A.Engine.plan_for i.file i.prices
-    i.rows i.plan i.users i.ledger i.journal i.payments i.till c.market.invariant
+    i.rows i.plan c.learn.new.users i.ledger i.journal i.payments i.till kept
     c.refuse_condition.new.prices c.refuse_condition.ensures.kept found.request.user
     c.assets.result.now c.sure_factors_of.new.assets c.assets.ensures.value
     c.sure_factors_of.ensures.kept_assets)
@@ -93,8 +111,9 @@ pub returns-in-Some-clause-same : goal.returns-in-Some-clause-same
 returns-in-Some-clause-same g c =
     let i = c.market.inside in
     same_trading i.file i.ledger i.journal i.users _
-    (quotes_same i.users c.in_ok-request.request.user c.assets.result.now
-    c.sure_factors_of.new.assets c.assets.ensures.value) ∙ c.market.view_is
+    (quotes_same c.learn.new.users c.in_ok-request.request.user c.assets.result.now
+    c.sure_factors_of.new.assets c.assets.ensures.value ∙ c.learn.ensures.quotes)
+    ∙ c.market.view_is
 
 pub returns-in-Some-clause-evidence : goal.returns-in-Some-clause-evidence
 returns-in-Some-clause-evidence g c =
@@ -110,7 +129,7 @@ returns-in-Some-clause-evidence g c =
     question c.args.name.now none found.request.user found.ensures.user c.in-Some.factors
     (c.in-Some.ensures.factors i.file.tree H found.request.user
     (evidence_grade (market_of i.file) H)
-    (c.market.invariant.owns found.request.user c.assets.result.now c.assets.ensures.value) opened
+    (c.learn.ensures.learnt c.assets.result.now c.assets.ensures.value) opened
     found.ensures.question.answered
     (gain_within i.file H found.request.user (g.A.Engine.grade_of m)
     (g.met.A.TreeGraded.within_tree m))))
@@ -119,8 +138,9 @@ pub returns-in-None-clause-same : goal.returns-in-None-clause-same
 returns-in-None-clause-same g c =
     let i = c.market.inside in
     same_trading i.file i.ledger i.journal i.users _
-    (quotes_same i.users c.in_ok-request.request.user c.assets.result.now
-    c.sure_factors_of.new.assets c.assets.ensures.value) ∙ c.market.view_is
+    (quotes_same c.learn.new.users c.in_ok-request.request.user c.assets.result.now
+    c.sure_factors_of.new.assets c.assets.ensures.value ∙ c.learn.ensures.quotes)
+    ∙ c.market.view_is
 
 pub returns-in-None-clause-evidence : goal.returns-in-None-clause-evidence
 returns-in-None-clause-evidence g c =
@@ -145,7 +165,7 @@ returns-in-None-clause-evidence g c =
     let refused = c.refuse_condition.ensures.refusal i.file.net i.file.tree H
     c.market.invariant.prices_stand opened by
     (c.in-None.ensures.factors i.file.tree H found.request.user of
-    (c.market.invariant.owns found.request.user c.assets.result.now c.assets.ensures.value) opened
+    (c.learn.ensures.learnt c.assets.result.now c.assets.ensures.value) opened
     found.ensures.question.answered (le_refl of)) in
     rw (← c.market.view_is) (position_stopped i.file H c.args.variable.now c.args.condition.now
     spread question c.args.name.now none c.refuse_condition.result

@@ -1,45 +1,54 @@
+use Rattle.std.proofs.Common.{◌∙◌}
 use Rattle.mk_tree.proofs.Held.{home_is_held}
-use Rattle.mk_market.proofs.Lent.{names_stay, quotes_stay, owned_still}
+use Rattle.mk_market.proofs.Learnt.{held_asked, still_in_range}
+use Rattle.mk_market.proofs.Lent.{names_stay, quotes_stay}
 use Rattle.mk_beliefs.specs.Meanings.{weights_of, gains_of}
 use Rattle.mk_file.specs.MarketOf.{market_of}
 use Rattle.mk_evidence.specs.Grades.{evidence_grade}
 use Rattle.mk_evidence.proofs.Grading.{weights_within, gains_within}
 use Rattle.mk_evidence.proofs.evidence_of_edits.edit_bounds.Goals as goal
 
+pub assets-requires : goal.assets-requires
+assets-requires g c = still_in_range c.args.users.now c.learn.new.users c.args.request.now.user
+    c.learn.ensures.names c.requires.user
+
 pub bounds_of-requires : goal.bounds_of-requires
 bounds_of-requires g c =
     let a = c.requires in
     record {
       tree = c.args.file.now.tree;
-      history = a.history;
+      history = c.args.journal.now.history;
       user = c.args.request.now.user;
       stands = a.in_use.weights;
-      owns = a.in_use.owns c.args.request.now.user c.assets.result.now c.assets.ensures.value;
+      owns = c.learn.ensures.learnt c.assets.result.now c.assets.ensures.value;
       is_open = a.in_use.is_open;
       answered = a.answered;
       held = home_is_held c.args.file.now.tree c.args.request.now.home _ a.at_home;
     }
 
-pub returns-in-Open-clause-assets : goal.returns-in-Open-clause-assets
-returns-in-Open-clause-assets g c =
-    owned_still c.args.users.now c.args.request.now.user g.A.Engine.stands_for c.requires.user
-    c.assets.result.now c.bounds_of.new.assets c.assets.ensures.value
-    c.bounds_of.ensures.kept_assets
+pub returns-in-Open-clause-held : goal.returns-in-Open-clause-held
+returns-in-Open-clause-held g c =
+    held_asked g.A.Engine.stands_for c.args.file.now.net c.args.file.now.tree
+    c.args.journal.now.history
+    c.learn.new.users c.learn.ensures.held c.args.request.now.user c.assets.result.now
+    c.bounds_of.new.assets c.assets.ensures.value c.bounds_of.ensures.kept_assets
 
 pub returns-in-Open-clause-names : goal.returns-in-Open-clause-names
-returns-in-Open-clause-names g c = names_stay c.args.users.now c.args.request.now.user
-    c.bounds_of.new.assets
+returns-in-Open-clause-names g c = names_stay c.learn.new.users
+    c.args.request.now.user c.bounds_of.new.assets ∙ c.learn.ensures.names
 
 pub returns-in-Open-clause-quotes : goal.returns-in-Open-clause-quotes
-returns-in-Open-clause-quotes g c = quotes_stay c.args.users.now c.args.request.now.user
-    c.bounds_of.new.assets
+returns-in-Open-clause-quotes g c = quotes_stay c.learn.new.users
+    c.args.request.now.user c.bounds_of.new.assets ∙ c.learn.ensures.quotes
 
 pub returns-in-Open-clause-bounds : goal.returns-in-Open-clause-bounds
-returns-in-Open-clause-bounds g c H in_use answered =
+returns-in-Open-clause-bounds g c =
+    let H = c.args.journal.now.history in let in_use = c.requires.in_use in
+    let answered = c.requires.answered in
     let tree = c.args.file.now.tree in let u = c.args.request.now.user in
     let file = c.args.file.now in
     let w = weights_of file.net tree H in let m = gains_of file.net tree H u in
-    let owns = in_use.owns u c.assets.result.now c.assets.ensures.value in
+    let owns = c.learn.ensures.learnt c.assets.result.now c.assets.ensures.value in
     record {
       left = (c.in-Open.ensures.sides tree H u in_use.weights owns in_use.is_open answered).0;
       bounded = c.in-Open.ensures.bounded tree H u (evidence_grade (market_of file) H)
@@ -48,62 +57,71 @@ returns-in-Open-clause-bounds g c H in_use answered =
           (gains_within file H u (g.A.Engine.grade_of m) (g.met.A.TreeGraded.within_tree m));
     }
 
-pub returns-in-Impossible-clause-assets : goal.returns-in-Impossible-clause-assets
-returns-in-Impossible-clause-assets g c =
-    owned_still c.args.users.now c.args.request.now.user g.A.Engine.stands_for c.requires.user
-    c.assets.result.now c.bounds_of.new.assets c.assets.ensures.value
-    c.bounds_of.ensures.kept_assets
+pub returns-in-Impossible-clause-held : goal.returns-in-Impossible-clause-held
+returns-in-Impossible-clause-held g c =
+    held_asked g.A.Engine.stands_for c.args.file.now.net c.args.file.now.tree
+    c.args.journal.now.history
+    c.learn.new.users c.learn.ensures.held c.args.request.now.user c.assets.result.now
+    c.bounds_of.new.assets c.assets.ensures.value c.bounds_of.ensures.kept_assets
 
 pub returns-in-Impossible-clause-names : goal.returns-in-Impossible-clause-names
-returns-in-Impossible-clause-names g c = names_stay c.args.users.now c.args.request.now.user
-    c.bounds_of.new.assets
+returns-in-Impossible-clause-names g c = names_stay c.learn.new.users
+    c.args.request.now.user c.bounds_of.new.assets ∙ c.learn.ensures.names
 
 pub returns-in-Impossible-clause-quotes : goal.returns-in-Impossible-clause-quotes
-returns-in-Impossible-clause-quotes g c = quotes_stay c.args.users.now c.args.request.now.user
-    c.bounds_of.new.assets
+returns-in-Impossible-clause-quotes g c = quotes_stay c.learn.new.users
+    c.args.request.now.user c.bounds_of.new.assets ∙ c.learn.ensures.quotes
 
 pub returns-in-Impossible-clause-bounds : goal.returns-in-Impossible-clause-bounds
-returns-in-Impossible-clause-bounds g c H in_use answered =
+returns-in-Impossible-clause-bounds g c =
+    let H = c.args.journal.now.history in let in_use = c.requires.in_use in
+    let answered = c.requires.answered in
     c.in-Impossible.ensures.sides c.args.file.now.tree H c.args.request.now.user in_use.weights
-    (in_use.owns c.args.request.now.user c.assets.result.now c.assets.ensures.value)
+    (c.learn.ensures.learnt c.assets.result.now c.assets.ensures.value)
     in_use.is_open answered
 
-pub returns-in-Never-clause-assets : goal.returns-in-Never-clause-assets
-returns-in-Never-clause-assets g c =
-    owned_still c.args.users.now c.args.request.now.user g.A.Engine.stands_for c.requires.user
-    c.assets.result.now c.bounds_of.new.assets c.assets.ensures.value
-    c.bounds_of.ensures.kept_assets
+pub returns-in-Never-clause-held : goal.returns-in-Never-clause-held
+returns-in-Never-clause-held g c =
+    held_asked g.A.Engine.stands_for c.args.file.now.net c.args.file.now.tree
+    c.args.journal.now.history
+    c.learn.new.users c.learn.ensures.held c.args.request.now.user c.assets.result.now
+    c.bounds_of.new.assets c.assets.ensures.value c.bounds_of.ensures.kept_assets
 
 pub returns-in-Never-clause-names : goal.returns-in-Never-clause-names
-returns-in-Never-clause-names g c = names_stay c.args.users.now c.args.request.now.user
-    c.bounds_of.new.assets
+returns-in-Never-clause-names g c = names_stay c.learn.new.users
+    c.args.request.now.user c.bounds_of.new.assets ∙ c.learn.ensures.names
 
 pub returns-in-Never-clause-quotes : goal.returns-in-Never-clause-quotes
-returns-in-Never-clause-quotes g c = quotes_stay c.args.users.now c.args.request.now.user
-    c.bounds_of.new.assets
+returns-in-Never-clause-quotes g c = quotes_stay c.learn.new.users
+    c.args.request.now.user c.bounds_of.new.assets ∙ c.learn.ensures.quotes
 
 pub returns-in-Never-clause-bounds : goal.returns-in-Never-clause-bounds
-returns-in-Never-clause-bounds g c H in_use answered =
+returns-in-Never-clause-bounds g c =
+    let H = c.args.journal.now.history in let in_use = c.requires.in_use in
+    let answered = c.requires.answered in
     c.in-Never.ensures.sides c.args.file.now.tree H c.args.request.now.user in_use.weights
-    (in_use.owns c.args.request.now.user c.assets.result.now c.assets.ensures.value)
+    (c.learn.ensures.learnt c.assets.result.now c.assets.ensures.value)
     in_use.is_open answered
 
-pub returns-in-Sure-clause-assets : goal.returns-in-Sure-clause-assets
-returns-in-Sure-clause-assets g c =
-    owned_still c.args.users.now c.args.request.now.user g.A.Engine.stands_for c.requires.user
-    c.assets.result.now c.bounds_of.new.assets c.assets.ensures.value
-    c.bounds_of.ensures.kept_assets
+pub returns-in-Sure-clause-held : goal.returns-in-Sure-clause-held
+returns-in-Sure-clause-held g c =
+    held_asked g.A.Engine.stands_for c.args.file.now.net c.args.file.now.tree
+    c.args.journal.now.history
+    c.learn.new.users c.learn.ensures.held c.args.request.now.user c.assets.result.now
+    c.bounds_of.new.assets c.assets.ensures.value c.bounds_of.ensures.kept_assets
 
 pub returns-in-Sure-clause-names : goal.returns-in-Sure-clause-names
-returns-in-Sure-clause-names g c = names_stay c.args.users.now c.args.request.now.user
-    c.bounds_of.new.assets
+returns-in-Sure-clause-names g c = names_stay c.learn.new.users
+    c.args.request.now.user c.bounds_of.new.assets ∙ c.learn.ensures.names
 
 pub returns-in-Sure-clause-quotes : goal.returns-in-Sure-clause-quotes
-returns-in-Sure-clause-quotes g c = quotes_stay c.args.users.now c.args.request.now.user
-    c.bounds_of.new.assets
+returns-in-Sure-clause-quotes g c = quotes_stay c.learn.new.users
+    c.args.request.now.user c.bounds_of.new.assets ∙ c.learn.ensures.quotes
 
 pub returns-in-Sure-clause-bounds : goal.returns-in-Sure-clause-bounds
-returns-in-Sure-clause-bounds g c H in_use answered =
+returns-in-Sure-clause-bounds g c =
+    let H = c.args.journal.now.history in let in_use = c.requires.in_use in
+    let answered = c.requires.answered in
     c.in-Sure.ensures.sides c.args.file.now.tree H c.args.request.now.user in_use.weights
-    (in_use.owns c.args.request.now.user c.assets.result.now c.assets.ensures.value)
+    (c.learn.ensures.learnt c.assets.result.now c.assets.ensures.value)
     in_use.is_open answered

@@ -29,11 +29,10 @@ pub edit_bounds-requires : goal.edit_bounds-requires
 edit_bounds-requires g c =
     let i = c.market.inside in let found = c.in_ok-request in
     record {
-      history = i.journal.history;
       in_use = in_use g.P.Engine.stands_for g.A.Engine.stands_for g.A.Engine.plan_for i.file
           i.prices i.rows i.plan i.users i.ledger i.journal i.payments i.till c.market.invariant
           i.prices
-          i.users (λ m stands. stands) (λ u h owns. owns);
+          i.users (λ m stands. stands) c.market.invariant.held;
       user = in_range i.users (users i.journal.history) found.request.user
           c.market.invariant.named found.ensures.user.within;
       answered = found.ensures.question.answered;
@@ -45,10 +44,6 @@ refuse_decided-requires g c =
     let i = c.market.inside in let found = c.in_ok-request in let H = i.journal.history in
     let opened = is_open g.P.Engine.stands_for g.A.Engine.stands_for g.A.Engine.plan_for i.file
     i.prices i.rows i.plan i.users i.ledger i.journal i.payments i.till c.market.invariant in
-    let used = in_use g.P.Engine.stands_for g.A.Engine.stands_for g.A.Engine.plan_for i.file
-    i.prices i.rows i.plan i.users i.ledger i.journal i.payments i.till c.market.invariant i.prices
-    i.users
-    (λ m stands. stands) (λ u h owns. owns) in
     record {
       network = i.file.net;
       tree = i.file.tree;
@@ -62,7 +57,7 @@ refuse_decided-requires g c =
       };
       answered = found.ensures.question.answered;
       at_home = found.ensures.home;
-      decided = c.in-Err.ensures.bounds H used found.ensures.question.answered;
+      decided = c.in-Err.ensures.bounds;
     }
 
 pub invariant_of-market : goal.invariant_of-market
@@ -71,7 +66,7 @@ invariant_of-market g c =
     kept_unquoted g.P.Engine.stands_for g.A.Engine.stands_for g.A.Engine.plan_for i.file i.prices
     made.new.prices i.rows i.plan i.users made.new.users i.ledger i.journal i.payments i.till
     c.market.invariant made.ensures.prices made.ensures.names made.ensures.quotes
-    made.ensures.assets
+    made.ensures.held
 
 pub returns-in-Ok-clause-same : goal.returns-in-Ok-clause-same
 returns-in-Ok-clause-same g c =
@@ -84,11 +79,7 @@ returns-in-Ok-clause-evidence g c =
     let i = c.market.inside in let found = c.in_ok-request in let H = i.journal.history in
     let opened = is_open g.P.Engine.stands_for g.A.Engine.stands_for g.A.Engine.plan_for i.file
     i.prices i.rows i.plan i.users i.ledger i.journal i.payments i.till c.market.invariant in
-    let used = in_use g.P.Engine.stands_for g.A.Engine.stands_for g.A.Engine.plan_for i.file
-    i.prices i.rows i.plan i.users i.ledger i.journal i.payments i.till c.market.invariant i.prices
-    i.users
-    (λ m stands. stands) (λ u h owns. owns) in
-    let both = c.in-Ok.ensures.bounds H used found.ensures.question.answered in
+    let both = c.in-Ok.ensures.bounds in
     let evidence : EditEvidence = record {
       user = found.request.user;
       question = found.request.question;
@@ -111,7 +102,7 @@ invariant_of-market-in-Err g c =
     c.refuse_decided.new.prices i.rows i.plan i.users made.new.users i.ledger i.journal i.payments
     i.till
     c.market.invariant (λ m stands. c.refuse_decided.ensures.kept m (made.ensures.prices m stands))
-    made.ensures.names made.ensures.quotes made.ensures.assets
+    made.ensures.names made.ensures.quotes made.ensures.held
 
 pub returns-in-Err-clause-same : goal.returns-in-Err-clause-same
 returns-in-Err-clause-same g c =
@@ -124,10 +115,6 @@ returns-in-Err-clause-evidence g c =
     let i = c.market.inside in let found = c.in_ok-request in let H = i.journal.history in
     let opened = is_open g.P.Engine.stands_for g.A.Engine.stands_for g.A.Engine.plan_for i.file
     i.prices i.rows i.plan i.users i.ledger i.journal i.payments i.till c.market.invariant in
-    let used = in_use g.P.Engine.stands_for g.A.Engine.stands_for g.A.Engine.plan_for i.file
-    i.prices i.rows i.plan i.users i.ledger i.journal i.payments i.till c.market.invariant i.prices
-    i.users
-    (λ m stands. stands) (λ u h owns. owns) in
     stopped_in c.args.market.now _ c.market.view_is (Limits c.args.name.now c.args.question.now)
     (Some c.refuse_decided.result) (sym (stopped_by_states (market_of i.file) H
     (Limits c.args.name.now c.args.question.now) c.refuse_decided.result found.ensures.refusal
@@ -138,4 +125,4 @@ returns-in-Err-clause-evidence g c =
       named = found.ensures.question.named;
       known = limits_known i.file H c.args.name.now c.args.question.now found.ensures.refusal;
     })
-    (c.in-Err.ensures.bounds H used found.ensures.question.answered))))
+    (c.in-Err.ensures.bounds))))

@@ -31,11 +31,10 @@ pub spread_bounds-requires : goal.spread_bounds-requires
 spread_bounds-requires g c =
     let i = c.market.inside in let found = c.in_ok-request in
     record {
-      history = i.journal.history;
       in_use = in_use g.P.Engine.stands_for g.A.Engine.stands_for g.A.Engine.plan_for i.file
           i.prices i.rows i.plan i.users i.ledger i.journal i.payments i.till c.market.invariant
           i.prices
-          i.users (λ m stands. stands) (λ u h owns. owns);
+          i.users (λ m stands. stands) c.market.invariant.held;
       user = in_range i.users (users i.journal.history) found.request.user
           c.market.invariant.named found.ensures.user.within;
       answered = found.ensures.question.answered;
@@ -49,10 +48,6 @@ refuse_stopped-requires g c =
     let question = question_for i.file H c.args.variable.now c.as_slice.result.now
     c.args.condition.now spread c.as_slice.ensures.value found.ensures.question in
     let none = found.ensures.refusal c.args.condition.now (sym c.as_slice.ensures.value) in
-    let used = in_use g.P.Engine.stands_for g.A.Engine.stands_for g.A.Engine.plan_for i.file
-    i.prices i.rows i.plan i.users i.ledger i.journal i.payments i.till c.market.invariant i.prices
-    i.users
-    (λ m stands. stands) (λ u h owns. owns) in
     can_refuse g.P.Engine.stands_for g.A.Engine.stands_for g.A.Engine.plan_for i.file i.prices
     i.rows i.plan i.users i.ledger i.journal i.payments i.till c.market.invariant
     c.spread_bounds.new.prices c.spread_bounds.new.users c.args.name.now
@@ -65,7 +60,7 @@ refuse_stopped-requires g c =
     found.request.user found.ensures.user c.args.variable.now c.args.condition.now spread question
     none)
     c.in-Err.ensures.prices (Decided c.in-Err.why)
-    (c.in-Err.ensures.bounds H used found.ensures.question.answered)
+    (c.in-Err.ensures.bounds)
 
 pub invariant_of-market : goal.invariant_of-market
 invariant_of-market g c =
@@ -76,7 +71,7 @@ invariant_of-market g c =
     (kept_unquoted g.P.Engine.stands_for g.A.Engine.stands_for g.A.Engine.plan_for i.file i.prices
     made.new.prices i.rows i.plan i.users made.new.users i.ledger i.journal i.payments i.till
     c.market.invariant made.ensures.prices made.ensures.names made.ensures.quotes
-    made.ensures.assets)
+    made.ensures.held)
 
 pub returns-in-Ok-clause-same : goal.returns-in-Ok-clause-same
 returns-in-Ok-clause-same g c =
@@ -94,11 +89,7 @@ returns-in-Ok-clause-evidence g c =
     let question = question_for i.file H c.args.variable.now c.as_slice.result.now
     c.args.condition.now spread c.as_slice.ensures.value found.ensures.question in
     let none = found.ensures.refusal c.args.condition.now (sym c.as_slice.ensures.value) in
-    let used = in_use g.P.Engine.stands_for g.A.Engine.stands_for g.A.Engine.plan_for i.file
-    i.prices i.rows i.plan i.users i.ledger i.journal i.payments i.till c.market.invariant i.prices
-    i.users
-    (λ m stands. stands) (λ u h owns. owns) in
-    let each = c.in-Ok.ensures.bounds H used found.ensures.question.answered in
+    let each = c.in-Ok.ensures.bounds in
     rw (← c.market.view_is) (
       sym (unrefused (market_of i.file) H command none
           (two_first i.file.net i.file.tree H found.request.user spread c.args.variable.now
@@ -117,7 +108,7 @@ invariant_of-market-in-Err g c =
     c.refuse_stopped.new.prices i.rows i.plan i.users made.new.users i.ledger i.journal i.payments
     i.till
     c.market.invariant (λ m stands. c.refuse_stopped.ensures.kept m (made.ensures.prices m stands))
-    made.ensures.names made.ensures.quotes made.ensures.assets)
+    made.ensures.names made.ensures.quotes made.ensures.held)
 
 pub returns-in-Err-clause-same : goal.returns-in-Err-clause-same
 returns-in-Err-clause-same g c =
@@ -135,11 +126,7 @@ returns-in-Err-clause-evidence g c =
     let question = question_for i.file H c.args.variable.now c.as_slice.result.now
     c.args.condition.now spread c.as_slice.ensures.value found.ensures.question in
     let none = found.ensures.refusal c.args.condition.now (sym c.as_slice.ensures.value) in
-    let used = in_use g.P.Engine.stands_for g.A.Engine.stands_for g.A.Engine.plan_for i.file
-    i.prices i.rows i.plan i.users i.ledger i.journal i.payments i.till c.market.invariant i.prices
-    i.users
-    (λ m stands. stands) (λ u h owns. owns) in
-    let by = c.in-Err.ensures.bounds H used found.ensures.question.answered in
+    let by = c.in-Err.ensures.bounds in
     let refused = subst (λ (words : List PairText). IsRefusedFor i.file.net H c.args.variable.now
     words spread (Decided c.in-Err.why) c.refuse_stopped.result) c.as_slice-in-Err.ensures.value
     (c.refuse_stopped.ensures.refusal i.file.tree H

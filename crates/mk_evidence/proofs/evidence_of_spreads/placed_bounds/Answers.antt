@@ -13,8 +13,8 @@ impossible_share-requires g c =
     let a = c.requires in let net = c.args.file.now.net in
     record {
       few = subst (λ (n : ℕ). n ≤ max_values) (sym a.one_each)
-          (few_values_at net a.in_use.is_open.legal c.args.request.now.question.variable
-          a.answered.in_order.in_range.variable);
+          (few_values_at net a.found.in_use.is_open.legal c.args.request.now.question.variable
+          a.found.answered.in_order.in_range.variable);
     }
 
 pub returns-in-Some-clause-placed : goal.returns-in-Some-clause-placed
@@ -22,11 +22,11 @@ returns-in-Some-clause-placed g c =
     let a = c.requires in let H = c.args.journal.now.history in
     let spread = spread_in c.args.request.now.question in
     let most = evidence_grade (market_of c.args.file.now) H in
-    let found = c.in-Ok.ensures.bounds H a.in_use a.answered in
+    let found = c.in-Ok.ensures.bounds in
     record {
       quote = c.make-quote.result;
       its = quote_anew c.args.file.now.net c.args.file.now.tree H c.args.request.now.user spread
-          a.answered most c.in-Ok.bounds found c.make-quote.result c.make-quote.ensures.user
+          a.found.answered most c.in-Ok.bounds found c.make-quote.result c.make-quote.ensures.user
           c.make-quote.ensures.question (c.make-quote.ensures.revision ∙ c.revision.ensures)
           c.make-quote.ensures.sides;
       meets = sym c.in-Some.ensures;
@@ -37,11 +37,11 @@ returns-then-misses_share-clause-placed g c =
     let a = c.requires in let H = c.args.journal.now.history in
     let spread = spread_in c.args.request.now.question in
     let most = evidence_grade (market_of c.args.file.now) H in
-    let found = c.in-Ok.ensures.bounds H a.in_use a.answered in
+    let found = c.in-Ok.ensures.bounds in
     record {
       quote = c.make-quote.result;
       its = quote_anew c.args.file.now.net c.args.file.now.tree H c.args.request.now.user spread
-          a.answered most c.in-Ok.bounds found c.make-quote.result c.make-quote.ensures.user
+          a.found.answered most c.in-Ok.bounds found c.make-quote.result c.make-quote.ensures.user
           c.make-quote.ensures.question (c.make-quote.ensures.revision ∙ c.revision.ensures)
           c.make-quote.ensures.sides;
       meets = (
@@ -56,13 +56,13 @@ returns-clause-placed g c =
     let a = c.requires in let H = c.args.journal.now.history in
     let spread = spread_in c.args.request.now.question in
     let most = evidence_grade (market_of c.args.file.now) H in
-    let found = c.in-Ok.ensures.bounds H a.in_use a.answered in
+    let found = c.in-Ok.ensures.bounds in
     record {
       found = found;
       placed = record {
         quote = c.make-quote.result;
         its = quote_anew c.args.file.now.net c.args.file.now.tree H c.args.request.now.user spread
-            a.answered most c.in-Ok.bounds found c.make-quote.result c.make-quote.ensures.user
+            a.found.answered most c.in-Ok.bounds found c.make-quote.result c.make-quote.ensures.user
             c.make-quote.ensures.question (c.make-quote.ensures.revision ∙ c.revision.ensures)
             c.make-quote.ensures.sides;
         meets = (

@@ -35,23 +35,15 @@ pub placed_bounds-requires-clause-found : goal.placed_bounds-requires-clause-fou
 placed_bounds-requires-clause-found g c =
     let i = c.market.inside in let found = c.in_ok-request in
     record {
-      history = i.journal.history;
       in_use = in_use g.P.Engine.stands_for g.A.Engine.stands_for g.A.Engine.plan_for i.file
           i.prices i.rows i.plan i.users i.ledger i.journal i.payments i.till c.market.invariant
           i.prices
-          i.users (λ m stands. stands) (λ u h owns. owns);
+          i.users (λ m stands. stands) c.market.invariant.held;
       user = in_range i.users (users i.journal.history) found.request.user
           c.market.invariant.named found.ensures.user.within;
       answered = found.ensures.question.answered;
       at_home = found.ensures.home;
     }
-
-pub placed_bounds-requires-clause-in_use : goal.placed_bounds-requires-clause-in_use
-placed_bounds-requires-clause-in_use g c =
-    let i = c.market.inside in
-    in_use g.P.Engine.stands_for g.A.Engine.stands_for g.A.Engine.plan_for i.file
-    i.prices i.rows i.plan i.users i.ledger i.journal i.payments i.till c.market.invariant i.prices
-    i.users (λ m stands. stands) (λ u h owns. owns)
 
 pub placed_bounds-requires-clause-one_each : goal.placed_bounds-requires-clause-one_each
 placed_bounds-requires-clause-one_each g c =
@@ -107,7 +99,7 @@ invariant_of-market g c =
     (kept_unquoted g.P.Engine.stands_for g.A.Engine.stands_for g.A.Engine.plan_for i.file i.prices
     made.new.prices i.rows i.plan i.users made.new.users i.ledger i.journal i.payments i.till
     c.market.invariant made.ensures.prices made.ensures.names made.ensures.quotes
-    made.ensures.assets)
+    made.ensures.held)
 
 pub returns-in-Ok-clause-same : goal.returns-in-Ok-clause-same
 returns-in-Ok-clause-same g c =
@@ -149,7 +141,7 @@ invariant_of-market-in-Err g c =
     c.refuse_stopped.new.prices i.rows i.plan i.users made.new.users i.ledger i.journal i.payments
     i.till
     c.market.invariant (λ m stands. c.refuse_stopped.ensures.kept m (made.ensures.prices m stands))
-    made.ensures.names made.ensures.quotes made.ensures.assets)
+    made.ensures.names made.ensures.quotes made.ensures.held)
 
 pub returns-in-Err-clause-same : goal.returns-in-Err-clause-same
 returns-in-Err-clause-same g c =
