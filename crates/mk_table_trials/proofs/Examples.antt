@@ -1,5 +1,5 @@
 -- What the tests' networks and tables have.
-use Rattle.std.proofs.Common.{◌≡◌, ℕ, ◌+◌, ◌^◌, ◌<◌, ◌⊎◌, inl, inr, List, length, set, arith, lit<, sym, ap, subst, ◌∙◌}
+use Rattle.std.proofs.Common.{◌≡◌, ℕ, ◌+◌, ◌*◌, ◌^◌, ◌<◌, ◌⊎◌, inl, inr, List, length, set, arith, lit<, sym, ap, subst, ◌∙◌}
 use Rattle.std.specs.Prelude.{slice_index_or}
 use Rattle.std.proofs.lemmas.Bool.{cases_eq}
 use Rattle.std.proofs.lemmas.List.{length-set, get_or-set_other}
@@ -14,7 +14,7 @@ pub record IsPlain (t : TableOf) (steps : ℕ) : Type 0 where
   pub has : HasNumbers t numbers steps
   pub no_shift : t.shift ≡ 0
 
-pub room_of : (t : TableOf) (steps : ℕ) → IsPlain t steps → steps + 24 < 2 ^ 19 → HasRoom t 24
+pub room_of : (t : TableOf) (steps : ℕ) → IsPlain t steps → steps + 24 < 3 * 2 ^ 20 → HasRoom t 24
 room_of t steps is few = record {
   numbers = is.numbers;
   steps = steps;
