@@ -429,7 +429,11 @@ fn expect_ends(
 fn whole_numbers(rt: HostRuntime) {
     expect_parts(&rt, Cell::of_whole(0, 40), (0, 0));
     expect_parts(&rt, Cell::of_whole(1, 0), (9223372036854775808, 1342177217));
-    expect_parts(&rt, Cell::of_whole(1, 40), (9223372036854775808, 1342177177));
+    expect_parts(
+        &rt,
+        Cell::of_whole(1, 40),
+        (9223372036854775808, 1342177177),
+    );
     expect_parts(
         &rt,
         Cell::of_whole(u64::MAX, 40),
