@@ -36,7 +36,7 @@ pub(crate) fn least_product(asked: &[bool], names: &[Named], trades: &[PlacedRat
 }
 
 /// Where the trades stand whose variable is named.
-fn places_of(names: &[Named], trades: &[PlacedRatio]) -> ArrayVec<u32, MAX_TRADES>
+pub(crate) fn places_of(names: &[Named], trades: &[PlacedRatio]) -> ArrayVec<u32, MAX_TRADES>
     requires { length trades.now ≤ max_groups }
     ensures { ArePlaces (named_by names.now trades.now) trades.now result.items }
 {

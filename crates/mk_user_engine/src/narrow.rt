@@ -23,6 +23,7 @@ ghost use Rattle.mk_user_engine.specs.Narrow.{IsListed, HasLeast, max_trades};
 ghost use Rattle.mk_user_engine.specs.NarrowForm.{IsNarrow, CanHold, CanTake, IsHeldIn};
 
 use crate::event_belief::belief_of;
+use crate::group_product::places_of;
 use crate::groups::{Groups, MAX_GROUPS};
 use crate::kept::{KeptLeast, keep_all, least_of};
 use arrayvec::ArrayVec;
@@ -34,8 +35,8 @@ use std::alloc::Global;
 /// The most trades of the narrow form.
 const MAX_TRADES: usize = 128;
 
-/// The most cells times trades for which a group is reckoned anew at each of its trades.
-const MAX_WORK: usize = 1024;
+/// The most cells times trades of a group that takes one trade more.
+const MAX_WORK: usize = 128;
 
 /// The most known pairs.
 const MAX_KNOWN: usize = 256;
@@ -126,12 +127,14 @@ impl Narrow {
         true
     }
 
-    /// Whether a group is reckoned anew with one trade more in little work.
+    /// Whether a group is reckoned in little work with one trade more.
     fn is_light(&self, place: usize) -> bool
-        requires { place < length self.now.groups.list.items }
+        requires place { place < length self.now.groups.list.items }
+        requires few { length self.now.trades.items < max_trades }
     {
-        let cells = self.groups.list[place].cells as usize;
-        cells.saturating_mul(self.trades.len() + 1) <= MAX_WORK
+        let group = &self.groups.list[place];
+        let own = places_of(&group.names, &self.trades).len();
+        (group.cells as usize).saturating_mul(own + 1) <= MAX_WORK
     }
 
     /// Takes a ratio whose variables one group names: of the others nothing changes.
