@@ -1,10 +1,10 @@
 -- The bounds of a question in a market in use.
-use Rattle.std.proofs.Common.{◌≡◌, ℕ, ◌+◌, ◌^◌, ◌<◌, ◌≤◌, max, Bool, false, List, length, slice_index, Option, Some, None, IsSome, IsSomeAnd, not, refl, sym, ap, subst, ◌∙◌, arith}
+use Rattle.std.proofs.Common.{◌≡◌, ℕ, ◌+◌, ◌-◌, ◌^◌, ◌<◌, ◌≤◌, max, Bool, false, List, length, slice_index, Option, Some, None, IsSome, IsSomeAnd, not, refl, sym, ap, subst, ◌∙◌, arith}
 use Rattle.std.specs.Prelude.{◌&&◌}
 use Rattle.std.proofs.lemmas.List.Filters.{sum_by-filter_both}
 use Rattle.mk_net.specs.declared.words.Pair.{Pair}
 use Rattle.mk_net.specs.Asked.{Asked}
-use Rattle.mk_net.specs.Bounds.{max_values}
+use Rattle.mk_net.specs.Bounds.{max_market_trades, max_values, grade_room}
 use Rattle.mk_net.specs.Events.{pairs_asked}
 use Rattle.mk_net.specs.Network.{Variable, sizes}
 use Rattle.mk_states.specs.Events.{holds, with_target, without_target}
@@ -22,7 +22,8 @@ use Rattle.mk_tree.specs.Held.{IsHeldAt}
 use Rattle.mk_scaled.specs.Range.{IsInRange}
 use Rattle.mk_enclose.specs.declared.enclosure.Enclosure.{Enclosure}
 use Rattle.mk_enclose.specs.declared.factor.Factor.{Factor}
-use Rattle.mk_enclose.specs.Enclosure.{upper_of, Encloses, HasGrade, IsExact}
+use Rattle.mk_enclose.specs.Enclosure.{upper_of, Encloses, HasGrade, IsExact, IsGradedWithin}
+use Rattle.mk_enclose.specs.Enclosure.{widest_grade}
 use Rattle.mk_semiring.specs.declared.held.Held.TheVariants.{Present}
 use Rattle.mk_semiring.specs.Held.{held_plus_fits}
 use Rattle.mk_engine.specs.Meaning.{Meaning, exact_belief, max_factors, max_grade}
@@ -38,6 +39,8 @@ use Rattle.mk_answers.specs.Open.{IsOpen, CanBeAnswered, AreBoundsFor, IsFactorF
 use Rattle.mk_answers.specs.inner.Found.{IsBeliefIn, IsFoundOf, IsPartFor, IsWholeFor, max_side_grade}
 use Rattle.mk_answers.proofs.Least.{present_is, some_least, factor_for}
 use Rattle.mk_answers.proofs.Presence.{least_where}
+use Rattle.mk_answers.proofs.Regraded.{within_more}
+use Rattle.mk_answers.proofs.Room.{room_at_most, room_positive}
 
 -- ---- the whole of two sides
 
@@ -66,6 +69,19 @@ sum_found a b sum small v w n is a_in b_in e fits = record {
 
     upper : small → upper_of a + upper_of b < 2 ^ 63
     upper s = let p = at_top a v a_in.encloses (a_in.exact s) in let q = at_top b w b_in.encloses (b_in.exact s) in let l = fits s in omega arith
+
+-- where both leave room for a step more there is room for the sum
+pub sum_graded : (a b sum : Enclosure) → IsSumOf a b sum → (most_trades : ℕ)
+    → HasGrade a (grade_room most_trades - 1) → HasGrade b (grade_room most_trades - 1)
+    → IsGradedWithin sum (grade_room most_trades)
+sum_graded a b sum is most_trades on_a on_b = record {
+  grade = max (grade_room most_trades - 1) (grade_room most_trades - 1) + 1;
+  small = one_more (grade_room most_trades) (room_positive most_trades);
+  has = is.grade (grade_room most_trades - 1) (grade_room most_trades - 1) on_a on_b;
+}
+  where
+    one_more : (room : ℕ) → 1 ≤ room → max (room - 1) (room - 1) + 1 ≤ room
+    one_more room some = omega arith
 
 -- the states that pass a test weigh no more than all
 total_small : (network : List Variable) (H : List Entry) (event : List Pair) → IsSmall network H → total network H (holds event) < 2 ^ 63
@@ -100,14 +116,14 @@ pub record BoundsSide (bounds : SideBounds) (small : Type 0) (side : Side) : Typ
 module _ (network : List Variable) (H : List Entry) (u : ℕ) (asked : Asked) (test : List ℕ → Bool) (part whole : Enclosure) (f : Factor)
     (part_in : IsFoundOf part (IsSmall network H) (total network H test)) (whole_in : IsFoundOf whole (IsSmall network H) (total network H (holds asked.condition)))
     (share : total network H test ≤ total network H (holds asked.condition))
-    (for : (g : ℕ) → least_gain network H u test ≡ Some g → IsFactorFor f (IsSmall network H) (factor_with H u g)) where
+    (for : (g : ℕ) → least_gain network H u test ≡ Some g → IsFactorFor f max_market_trades (IsSmall network H) (factor_with H u g)) where
   at_gain : (g : ℕ) → least_gain network H u test ≡ Some g
       → BoundsSide (record { part = part; whole = whole; factor = f }) (IsSmall network H) (record { price = price_where network H asked.condition test; least = factor_with H u g })
   at_gain g e =
       let of = for g e in
       record {
         bounded = record { part = part_in.encloses; whole = whole_in.encloses; share = share; least = of.stands };
-        graded = record { part = part_in.graded; whole = whole_in.graded; gain = of.graded };
+        graded = record { part = part_in.graded; whole = whole_in.graded; gain = within_more f.gain (grade_room max_market_trades) widest_grade (room_at_most max_market_trades) of.graded };
         exact = λ s. record { part = part_in.exact s; whole = whole_in.exact s; gain = of.exact s };
       }
 
@@ -142,8 +158,8 @@ module _ (network : List Variable) (tree : GivenTree) (H : List Entry) (u : ℕ)
           some_least (holding_of network tree H u) (exact_belief least (gains_of network tree H u) event) most result least_is (hit_gain event its_pairs (found.0) (found.1)).1
 
       pub hit_for : (f : Factor) → result ≡ Some f → most ≤ length (gains_of network tree H u).factors + max_grade + max_values
-          → (g : ℕ) → least_gain network H u (with_target asked) ≡ Some g → IsFactorFor f (IsSmall network H) (factor_with H u g)
-      hit_for f is close g e = factor_for network tree H u is_open (exact_belief least (gains_of network tree H u) event) most result f is least_is close g (hit_gain event its_pairs g e).0
+          → (g : ℕ) → least_gain network H u (with_target asked) ≡ Some g → IsFactorFor f max_market_trades (IsSmall network H) (factor_with H u g)
+      hit_for f is close g e = factor_for network tree H u is_open (exact_belief least (gains_of network tree H u) event) most result f is least_is close max_market_trades is_open.within.few_trades g (hit_gain event its_pairs g e).0
 
     module _ (values : ℕ) (sized : values ≡ slice_index (sizes network) asked.target.variable) (most : ℕ) (result : Option Factor)
         (least_is : IsLeastFactor (holding_of network tree H u) (exact_others least (gains_of network tree H u) asked values) most result) where
@@ -153,8 +169,8 @@ module _ (network : List Variable) (tree : GivenTree) (H : List Entry) (u : ℕ)
           some_least (holding_of network tree H u) (exact_others least (gains_of network tree H u) asked values) most result least_is (miss_gain values sized (found.0) (found.1)).1
 
       pub miss_for : (f : Factor) → result ≡ Some f → most ≤ length (gains_of network tree H u).factors + max_grade + max_values
-          → (g : ℕ) → least_gain network H u (without_target asked) ≡ Some g → IsFactorFor f (IsSmall network H) (factor_with H u g)
-      miss_for f is close g e = factor_for network tree H u is_open (exact_others least (gains_of network tree H u) asked values) most result f is least_is close g (miss_gain values sized g e).0
+          → (g : ℕ) → least_gain network H u (without_target asked) ≡ Some g → IsFactorFor f max_market_trades (IsSmall network H) (factor_with H u g)
+      miss_for f is close g e = factor_for network tree H u is_open (exact_others least (gains_of network tree H u) asked values) most result f is least_is close max_market_trades is_open.within.few_trades g (miss_gain values sized g e).0
 
     -- what a call for the other values asks of an engine
     pub can_ask : {E : Type 0} (stands_for : E → Meaning
@@ -184,8 +200,8 @@ module _ (network : List Variable) (tree : GivenTree) (H : List Entry) (u : ℕ)
 module _ (network : List Variable) (H : List Entry) (u : ℕ) (asked : Asked) (hit miss whole : Enclosure) (hit_factor miss_factor : Factor)
     (hit_in : IsBeliefIn (Present hit) (IsSmall network H) (total network H (with_target asked)))
     (miss_in : IsBeliefIn (Present miss) (IsSmall network H) (total network H (without_target asked))) (whole_is : IsSumOf hit miss whole)
-    (hit_least : (g : ℕ) → least_gain network H u (with_target asked) ≡ Some g → IsFactorFor hit_factor (IsSmall network H) (factor_with H u g))
-    (miss_least : (g : ℕ) → least_gain network H u (without_target asked) ≡ Some g → IsFactorFor miss_factor (IsSmall network H) (factor_with H u g)) where
+    (hit_least : (g : ℕ) → least_gain network H u (with_target asked) ≡ Some g → IsFactorFor hit_factor max_market_trades (IsSmall network H) (factor_with H u g))
+    (miss_least : (g : ℕ) → least_gain network H u (without_target asked) ≡ Some g → IsFactorFor miss_factor max_market_trades (IsSmall network H) (factor_with H u g)) where
   whole_in : IsWholeFor network H asked whole
   whole_in = sum_is_whole network H asked hit miss whole hit_in miss_in whole_is
 

@@ -6,7 +6,7 @@ use Rattle.std.specs.Prelude.{option_map, IsSomeAnd}
 use Rattle.std.specs.List.{AllZip, AllByRecursion, range_with_len}
 use Rattle.std.proofs.lemmas.Nat.{pow-add}
 use Rattle.mk_net.specs.Asked.{Asked}
-use Rattle.mk_net.specs.Bounds.{max_points_per_bit}
+use Rattle.mk_net.specs.Bounds.{max_market_trades, max_points_per_bit, grade_room}
 use Rattle.mk_net.specs.Network.{Variable}
 use Rattle.mk_states.specs.Events.{with_target}
 use Rattle.mk_exact.specs.Factors.{IsAtLeastOne, gain, least_by, factor_with}
@@ -21,6 +21,7 @@ use Rattle.mk_exact.proofs.ExistMarkets.{least_where}
 use Rattle.mk_spread.specs.Spreads.{SpreadAsked, asked_of}
 use Rattle.mk_spread.specs.Markets.{IsValueSide}
 use Rattle.mk_enclose.specs.declared.factor.Factor.{Factor}
+use Rattle.mk_enclose.specs.Enclosure.{widest_grade}
 use Rattle.mk_enclose.specs.Factor.{paid_in, taken_out}
 use Rattle.mk_quote.specs.declared.side.SideBounds.{SideBounds}
 use Rattle.mk_quote.specs.declared.values.SpreadBounds.{SpreadBounds}
@@ -33,6 +34,8 @@ use Rattle.mk_answers.specs.Open.{IsFactorFor}
 use Rattle.mk_answers.specs.Evidence.{IsFactorOf, IsLeastFactorOf, AreBoundsOfSide, IsBoundedValue}
 use Rattle.mk_answers.specs.inner.Found.{IsCounted, IsValueCounted}
 use Rattle.mk_answers.proofs.Bounding.{side_parts}
+use Rattle.mk_answers.proofs.Regraded.{within_more}
+use Rattle.mk_answers.proofs.Room.{room_at_most}
 use Rattle.mk_answers.proofs.Told.{idle_least}
 
 -- without a gain and without trades net bits are what was paid in over what was taken out
@@ -74,9 +77,9 @@ module _ (network : List Variable) (H : List Entry) (u : ℕ) where
         (found.2 sound).at_least_one
 
     -- a factor of a least gain
-    pub factor_of_gain : IsFactorFor f (IsSmall network H) (factor_with H u g)
+    pub factor_of_gain : IsFactorFor f max_market_trades (IsSmall network H) (factor_with H u g)
         → ((b : ℕ) → b ≤ max_points_per_bit → HasCashRange f b)
-        → IsFactorOf (2 ^ 17) network H u g f
+        → IsFactorOf widest_grade network H u g f
     factor_of_gain for cash =
         let held : IsHeld f (factor_with H u g) = record { stands = for.stands; idle = idle_factor }
         in
@@ -85,22 +88,23 @@ module _ (network : List Variable) (H : List Entry) (u : ℕ) where
           owned = λ sound. record { held = held; one = at_least_one sound };
           traded = counted.trades;
           exact = for.exact;
-          graded = for.graded;
+          graded = within_more f.gain (grade_room max_market_trades) widest_grade
+              (room_at_most max_market_trades) for.graded;
           cash = cash;
           trade = counted.range;
         }
 
-    pub least_factor : IsFactorFor f (IsSmall network H) (factor_with H u g)
+    pub least_factor : IsFactorFor f max_market_trades (IsSmall network H) (factor_with H u g)
         → ((b : ℕ) → b ≤ max_points_per_bit → HasCashRange f b)
-        → IsLeastFactorOf (2 ^ 17) network H u test f
+        → IsLeastFactorOf widest_grade network H u test f
     least_factor for cash = subst (λ (o : Option ℕ). IsSomeAnd o
-        (λ n. IsFactorOf (2 ^ 17) network H u n f)) (sym is) (factor_of_gain for cash)
+        (λ n. IsFactorOf widest_grade network H u n f)) (sym is) (factor_of_gain for cash)
 
   -- a side whose factor counts
   pub side_bounded : (asked : Asked) (test : List ℕ → Bool) (bounds : SideBounds) (side : Side)
       → IsSide network H u asked test side → IsCounted H u bounds.factor
       → AreBoundsOf bounds side → AreGraded bounds → (IsSmall network H → AreExact bounds)
-      → AreBoundsOfSide (2 ^ 17) network H u bounds side
+      → AreBoundsOfSide widest_grade network H u bounds side
   side_bounded asked test bounds side its counted encloses graded exact = record {
     bounds_of = λ small is. record {
       bounds_of = encloses;
@@ -123,7 +127,7 @@ module _ (network : List Variable) (H : List Entry) (u : ℕ) where
         → EncloseEach (option_map (side_in bounds) part ∷ []) (side ∷ [])
         → AreEachGraded (option_map (side_in bounds) part ∷ [])
         → (IsSmall network H → AreEachExact (option_map (side_in bounds) part ∷ []))
-        → IsBoundedValue (2 ^ 17) network H u (option_map (side_in bounds) part) side
+        → IsBoundedValue widest_grade network H u (option_map (side_in bounds) part) side
     one_bounded k None None counted its encloses graded exact = tt
     one_bounded k None (Some side) counted its encloses graded exact = absurd encloses.0
     one_bounded k (Some part) None counted its encloses graded exact = absurd encloses.0
@@ -137,7 +141,7 @@ module _ (network : List Variable) (H : List Entry) (u : ℕ) where
         → EncloseEach (map (option_map (side_in bounds)) parts) sides
         → AreEachGraded (map (option_map (side_in bounds)) parts)
         → (IsSmall network H → AreEachExact (map (option_map (side_in bounds)) parts))
-        → AllZip (IsBoundedValue (2 ^ 17) network H u) (map (option_map (side_in bounds)) parts)
+        → AllZip (IsBoundedValue widest_grade network H u) (map (option_map (side_in bounds)) parts)
         sides
     each_bounded n a [] [] counted its encloses graded exact = tt
     each_bounded n a [] (side ∷ sides) counted its encloses graded exact = absurd encloses

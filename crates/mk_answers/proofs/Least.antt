@@ -12,15 +12,17 @@ use Rattle.mk_net.specs.Network.{Variable}
 use Rattle.mk_net.specs.Zeros.{with_zeros}
 use Rattle.mk_states.specs.Events.{always}
 use Rattle.mk_exact.specs.Factors.{HoldsNoTrade, gain, factor_with, least_gain, trade_count}
-use Rattle.mk_exact.specs.History.{Entry, UserTrade, deposited, withdrawn, trades_of}
+use Rattle.mk_exact.specs.History.{Entry, UserTrade, deposited, withdrawn, trades, trades_of}
 use Rattle.mk_states.specs.Ratios.{ratio_at}
 use Rattle.mk_states.specs.States.{product_by}
 use Rattle.mk_exact.specs.Weight.{IsSmall, possible_states}
+use Rattle.mk_exact.proofs.ExistBounds.{least_gain_at_most}
 use Rattle.mk_exact.proofs.ExistMarkets.{least_gain_exists, of_least}
 use Rattle.mk_cell.specs.Least.{least}
+use Rattle.mk_scaled.specs.Range.{two_to}
 use Rattle.mk_tree.specs.Given.{GivenTree}
 use Rattle.mk_enclose.specs.declared.factor.Factor.{Factor}
-use Rattle.mk_enclose.specs.Enclosure.{Encloses}
+use Rattle.mk_enclose.specs.Enclosure.{upper_of, Encloses}
 use Rattle.mk_enclose.specs.Factor.{paid_in, taken_out, StandsFor}
 use Rattle.mk_enclose.specs.inner.Standing.{stands_for}
 use Rattle.mk_engine.specs.Meaning.{Factor as Multiplied, SupportOf, RatioOf, is_ratio, exact_belief, max_factors, max_grade}
@@ -33,6 +35,7 @@ use Rattle.mk_assets.specs.Holdings.{Holding, IsNet, IsLeastFactor, max_bits}
 use Rattle.mk_judge.specs.Powers.{HasCashRange}
 use Rattle.mk_answers.specs.Open.{IsOpen, IsFactorFor, holding_of}
 use Rattle.mk_answers.specs.inner.Found.{IsCounted}
+use Rattle.mk_answers.proofs.Room.{gains_room, upper_few}
 
 -- a least value that is present is the number itself
 pub present_is : (n g : ℕ) → if_present n ≡ Some g → (n ≡ g) × (1 ≤ n)
@@ -100,10 +103,15 @@ module _ (network : List Variable) (tree : GivenTree) (H : List Entry) (u : ℕ)
         (stands_for f n (deposited H u) (withdrawn H u) its.gain its.net.same))
 
     -- the factor that is found is for the least gain
-    pub factor_for : (g : ℕ) → n ≡ g → IsFactorFor f (IsSmall network H) (factor_with H u g)
-    factor_for g e = record {
+    pub factor_for : (most_trades : ℕ) → length (trades H) ≤ most_trades → (g : ℕ) → n ≡ g
+        → IsFactorFor f most_trades (IsSmall network H) (factor_with H u g)
+    factor_for most_trades fit g e = record {
       stands = stands g e;
-      graded = record { grade = most; small = omega (arith, close, few); has = its.grade.0 };
+      graded = record {
+        grade = most;
+        small = omega (arith, close, gains_room network tree H is_open most_trades fit u);
+        has = its.grade.0;
+      };
       exact = λ s. its.exact (gains_are_small network tree H u is_open.legal is_open.proper s);
     }
 
@@ -130,32 +138,37 @@ module _ (network : List Variable) (tree : GivenTree) (H : List Entry) (u : ℕ)
           };
         }
 
+    -- a gain of at most 63 bits for each trade has an upper end of one bit more at most
+    top_few : n ≤ 2 ^ (63 * trade_count H u) → upper_of f.gain ≤ two_to (63 * trade_count H u + 1)
+    top_few small = upper_few f.gain n most (63 * trade_count H u) (omega (arith, close, few))
+        its.grade.0 its.gain small
+
     -- and what its cash is compared with has few enough bits
-    pub cash_in_range : deposited H u ≤ max_bits → withdrawn H u ≤ max_bits → (b : ℕ)
-        → b ≤ max_points_per_bit → HasCashRange f b
-    cash_in_range few_in few_out b h =
+    pub cash_in_range : n ≤ 2 ^ (63 * trade_count H u) → deposited H u ≤ max_bits
+        → withdrawn H u ≤ max_bits → (b : ℕ) → b ≤ max_points_per_bit → HasCashRange f b
+    cash_in_range small few_in few_out b h =
         let paid = paid_few f.net (deposited H u) (withdrawn H u) its.net in
         let taken = taken_few f.net (deposited H u) (withdrawn H u) its.net in
         record {
-          bits = 192 * (most + 1);
-          gain = its.grade.1;
-          above = product_small b (paid_in f.net + (192 * (most + 1) + 59)) h
-              (omega (arith, paid, few_in, close, few));
+          bits = 63 * trade_count H u + 1;
+          gain = top_few small;
+          above = product_small b (paid_in f.net + (63 * trade_count H u + 1 + 59)) h
+              (omega (arith, paid, few_in, own_few));
           below = product_small b (40 * f.trades + taken_out f.net) h
               (omega (arith, taken, few_out, counted, own_few));
         }
 
     -- and its powers are in range
-    pub factor_in_range : deposited H u ≤ max_bits → withdrawn H u ≤ max_bits → (b : ℕ) → b ≤ max_points_per_bit → HasPowersInRange f b
-    factor_in_range few_in few_out b h =
+    pub factor_in_range : n ≤ 2 ^ (63 * trade_count H u) → deposited H u ≤ max_bits
+        → withdrawn H u ≤ max_bits → (b : ℕ) → b ≤ max_points_per_bit → HasPowersInRange f b
+    factor_in_range small few_in few_out b h =
         let paid = paid_few f.net (deposited H u) (withdrawn H u) its.net in
         let taken = taken_few f.net (deposited H u) (withdrawn H u) its.net in
-        let top = its.grade.1 in
-        let trades = counted in
+        let same = counted in
         let own = own_few in
-        powers_in_range f b (192 * (most + 1)) top
-        (product_small b (paid_in f.net + 192 * (most + 1)) h (omega (arith, paid, few_in, close, few)))
-        (product_small b (40 * f.trades + taken_out f.net) h (omega (arith, taken, few_out, trades, own)))
+        powers_in_range f b (63 * trade_count H u + 1) (top_few small)
+        (product_small b (paid_in f.net + (63 * trade_count H u + 1)) h (omega (arith, paid, few_in, own)))
+        (product_small b (40 * f.trades + taken_out f.net) h (omega (arith, taken, few_out, same, own)))
 
   -- the least gain over all possible states
   pub always_some : 1 ≤ exact_belief least (gains_of network tree H u) []
@@ -165,6 +178,13 @@ module _ (network : List Variable) (tree : GivenTree) (H : List Entry) (u : ℕ)
 
   pub always_is : (g : ℕ) → least_gain network H u always ≡ Some g → exact_belief least (gains_of network tree H u) [] ≡ g
   always_is g e = (present_is (exact_belief least (gains_of network tree H u) []) g (sym (all_is_least network tree H u is_open.legal is_open.proper) ∙ e)).0
+
+  -- and of at most 63 bits for each trade
+  always_small : exact_belief least (gains_of network tree H u) [] ≤ 2 ^ (63 * trade_count H u)
+  always_small =
+      let has = least_gain_exists network H u is_open.legal is_open.proper in
+      rw (always_is has.least has.is_least)
+      (least_gain_at_most network H is_open.within u always has.least has.is_least)
 
   -- which is one where the user holds no trade
   always_one : HoldsNoTrade H u → exact_belief least (gains_of network tree H u) [] ≡ 1
@@ -189,8 +209,11 @@ module _ (network : List Variable) (tree : GivenTree) (H : List Entry) (u : ℕ)
     some_worst = some_least (holding_of network tree H u) (exact_belief least (gains_of network tree H u) []) most result over_all always_some
 
     module _ (f : Factor) (is : result ≡ Some f) (close : most ≤ length (gains_of network tree H u).factors + max_grade + max_values) where
-      pub worst_for : (g : ℕ) → least_gain network H u always ≡ Some g → IsFactorFor f (IsSmall network H) (factor_with H u g)
-      worst_for g e = factor_for (exact_belief least (gains_of network tree H u) []) most result f is over_all close g (always_is g e)
+      pub worst_for : (most_trades : ℕ) → length (trades H) ≤ most_trades → (g : ℕ)
+          → least_gain network H u always ≡ Some g
+          → IsFactorFor f most_trades (IsSmall network H) (factor_with H u g)
+      worst_for most_trades fit g e = factor_for (exact_belief least (gains_of network tree H u) [])
+          most result f is over_all close most_trades fit g (always_is g e)
 
       pub worst_idle : HoldsNoTrade H u → Encloses f.gain 1
       worst_idle none = encloses_least (exact_belief least (gains_of network tree H u) []) most
@@ -203,7 +226,7 @@ module _ (network : List Variable) (tree : GivenTree) (H : List Entry) (u : ℕ)
       pub worst_cash : deposited H u ≤ max_bits → withdrawn H u ≤ max_bits → (b : ℕ)
           → b ≤ max_points_per_bit → HasCashRange f b
       worst_cash few_in few_out = cash_in_range (exact_belief least (gains_of network tree H u) [])
-          most result f is over_all close few_in few_out
+          most result f is over_all close always_small few_in few_out
 
       pub worst_in_range : deposited H u ≤ max_bits → withdrawn H u ≤ max_bits → (b : ℕ) → b ≤ max_points_per_bit → HasPowersInRange f b
-      worst_in_range few_in few_out = factor_in_range (exact_belief least (gains_of network tree H u) []) most result f is over_all close few_in few_out
+      worst_in_range few_in few_out = factor_in_range (exact_belief least (gains_of network tree H u) []) most result f is over_all close always_small few_in few_out

@@ -1,4 +1,5 @@
 pub mod Homes
+pub mod Room
 pub mod Weaker
 pub mod MostBits
 pub mod Parts

@@ -3,8 +3,10 @@ use Rattle.std.proofs.Common.{◌≡◌, ℕ, zero, suc, ◌+◌, ◌-◌, ◌*�
 use Rattle.std.proofs.lemmas.Bool.{cases_lt}
 use Rattle.std.proofs.lemmas.Nat.{pow-add, pow_pos}
 use Rattle.std.proofs.Math.Nat.{pow-zero, pow-suc, pow-le-pow_right, mul-le-mul_left, mul-le-mul_right, mul-lt-mul_of_pos_right, one-le-mul, one-le-pow, le_of_mul-le-mul_right, lt_of_mul-lt-mul_right}
+use Rattle.mk_net.specs.Bounds.{sharpness, grade_room}
 use Rattle.mk_exact.specs.Accepted.{Covers, IsMost}
 use Rattle.mk_exact.specs.Factors.{Fraction, IsAtLeastOne}
+use Rattle.mk_exact.proofs.Sharp.{at_room, sharp_enough}
 use Rattle.mk_scaled.specs.Near.{IsNear, near_width}
 use Rattle.mk_enclose.specs.declared.factor.Factor.{Factor}
 use Rattle.mk_enclose.specs.Enclosure.{lower_of, upper_of, Encloses, IsExact, IsGradedWithin}
@@ -40,19 +42,44 @@ exactly k n d s p g low same exact short positive =
     let c : n * s < k * d * s = omega arith in
     lt_of_mul-lt-mul_right s c
 
--- a grade leaves the ends within one part in 2^43
-thin : (low high c : ℕ) → 2 ^ 60 - 2 ^ 17 ≤ c → high * c ≤ low * 2 ^ 60
-    → high * (2 ^ 43 - 1) ≤ low * 2 ^ 43
-thin low high c h l = let m : high * (2 ^ 60 - 2 ^ 17) ≤ high * c = mul-le-mul_left high h in omega
-    arith
+-- a grade for which there is room leaves the ends within one part in twice the sharpness
+usual_thin : (low high c : ℕ) → 2 ^ 60 - 2 ^ 17 ≤ c → high * c ≤ low * 2 ^ 60
+    → high * (2 * 2 ^ 42 - 1) ≤ low * (2 * 2 ^ 42)
+usual_thin low high c h l =
+    let m : high * (2 ^ 60 - 2 ^ 17) ≤ high * c = mul-le-mul_left high h in omega arith
 
-thin_ends : (low high g : ℕ) → g ≤ 2 ^ 17 → IsNear low high g → high * (2 ^ 43 - 1) ≤ low * 2 ^ 43
-thin_ends low high g h l = thin low high (2 ^ 60 - g) (omega arith) (near_width low high g l)
+large_thin : (low high c : ℕ) → 2 ^ 60 - (2 ^ 20 - 1) ≤ c → high * c ≤ low * 2 ^ 60
+    → high * (2 * 2 ^ 39 - 1) ≤ low * (2 * 2 ^ 39)
+large_thin low high c h l =
+    let m : high * (2 ^ 60 - (2 ^ 20 - 1)) ≤ high * c = mul-le-mul_left high h in omega arith
+
+thin : (most_trades : ℕ) (low high c : ℕ) → 2 ^ 60 - grade_room most_trades ≤ c
+    → high * c ≤ low * 2 ^ 60
+    → high * (2 * sharpness most_trades - 1) ≤ low * (2 * sharpness most_trades)
+thin = at_room (λ (near room : ℕ). (low high c : ℕ) → 2 ^ 60 - room ≤ c → high * c ≤ low * 2 ^ 60
+    → high * (2 * near - 1) ≤ low * (2 * near)) usual_thin large_thin
+
+thin_ends : (most_trades low high g : ℕ) → g ≤ grade_room most_trades → IsNear low high g
+    → high * (2 * sharpness most_trades - 1) ≤ low * (2 * sharpness most_trades)
+thin_ends most_trades low high g h l =
+    thin most_trades low high (2 ^ 60 - g) (omega arith) (near_width low high g l)
 
 -- where the ends are such and one is between them, both are one
-one_alone : (low high : ℕ) → 1 ≤ low → low ≤ 1 → 1 ≤ high → high * (2 ^ 43 - 1) ≤ low * 2 ^ 43
-    → low ≡ high
-one_alone low high some few most near = omega arith
+one_alone : (near low high : ℕ) → 2 ≤ near → 1 ≤ low → low ≤ 1 → 1 ≤ high
+    → high * (2 * near - 1) ≤ low * (2 * near) → low ≡ high
+one_alone near low high wide some few most close = at high most close
+  where
+    one : low ≡ 1
+    one = omega arith
+
+    at : (n : ℕ) → 1 ≤ n → n * (2 * near - 1) ≤ low * (2 * near) → low ≡ n
+    at zero most close = absurd (omega arith)
+    at (suc zero) most close = one
+    at (suc (suc n)) most close =
+        let top : 2 * (2 * near - 1) ≤ suc (suc n) * (2 * near - 1) = mul-le-mul_right (2 * near - 1)
+        (omega arith) in
+        let less : suc (suc n) * (2 * near - 1) ≤ 1 * (2 * near) = rw one at close in
+        absurd (omega arith)
 
 -- ---- over factors
 
@@ -109,38 +136,51 @@ module _ (f : Factor) (bits : ℕ) (are : AreBitsOf f bits) (q : Fraction) (stan
       (λ more. absurd (let l = are.greatest (bits + 1) (record { fit = subst (λ n. n ≤ lower_of f.gain * 2 ^ paid_in f.net) (sym (split (bits + 1) f)) more }) in omega arith))
       (cases_lt (lower_of f.gain * 2 ^ paid_in f.net) (2 ^ (bits + 1) * owed f))
 
-  narrow : IsGradedWithin f.gain (2 ^ 17)
-      → upper_of f.gain * (2 ^ 43 - 1) ≤ lower_of f.gain * 2 ^ 43
-  narrow graded = thin_ends (lower_of f.gain) (upper_of f.gain) graded.grade graded.small
-      graded.has.near
+  narrow : (most_trades : ℕ) → IsGradedWithin f.gain (grade_room most_trades)
+      → upper_of f.gain * (2 * sharpness most_trades - 1)
+      ≤ lower_of f.gain * (2 * sharpness most_trades)
+  narrow most_trades graded = thin_ends most_trades (lower_of f.gain) (upper_of f.gain) graded.grade
+      graded.small graded.has.near
 
-  near : IsGradedWithin f.gain (2 ^ 17) → q.num * (2 ^ 43 - 1) < 2 ^ (bits + 1) * 2 ^ 43 * q.den
-  near graded =
+  close_to : (more : ℕ) → 1 ≤ more
+      → upper_of f.gain * (more - 1) ≤ lower_of f.gain * more
+      → q.num * (more - 1) < 2 ^ (bits + 1) * more * q.den
+  close_to more some thin =
       let l = nearly (2 ^ (bits + 1)) q.num q.den (owed f) (2 ^ paid_in f.net) stands.gain
-      (lower_of f.gain) (upper_of f.gain) (2 ^ 43 - 1) (2 ^ 43)
-      same stands.encloses.upper (narrow graded) short stands.positive (omega arith) in
-      omega arith
+      (lower_of f.gain) (upper_of f.gain) (more - 1) more
+      same stands.encloses.upper thin short stands.positive some in
+      omega (arith, l)
+
+  near : (most_trades : ℕ) → IsGradedWithin f.gain (grade_room most_trades)
+      → q.num * (2 * sharpness most_trades - 1)
+      < 2 ^ (bits + 1) * (2 * sharpness most_trades) * q.den
+  near most_trades graded =
+      let wide = sharp_enough most_trades in
+      close_to (2 * sharpness most_trades) (omega (arith, wide)) (narrow most_trades graded)
 
   next : IsExact f.gain → q.num < 2 ^ (bits + 1) * q.den
   next exact = exactly (2 ^ (bits + 1)) q.num q.den (owed f) (2 ^ paid_in f.net) stands.gain (lower_of f.gain) same
       (omega (arith, stands.encloses.lower, stands.encloses.upper, exact.same)) short stands.positive
 
   -- a gain that can be one is one
-  one_exact : IsGradedWithin f.gain (2 ^ 17) → Encloses f.gain 1 → IsExact f.gain
-  one_exact graded one = record {
-    same = one_alone (lower_of f.gain) (upper_of f.gain)
-        f.gain.positive one.lower one.upper (narrow graded);
+  one_exact : (most_trades : ℕ) → IsGradedWithin f.gain (grade_room most_trades)
+      → Encloses f.gain 1 → IsExact f.gain
+  one_exact most_trades graded one = record {
+    same = one_alone (sharpness most_trades) (lower_of f.gain) (upper_of f.gain)
+        (sharp_enough most_trades) f.gain.positive one.lower one.upper
+        (narrow most_trades graded);
   }
 
-  pub is_most : (small : Type 0) → IsGradedWithin f.gain (2 ^ 17) → (small → IsExact f.gain)
-      → IsMost small (Encloses f.gain 1) q bits
-  is_most small graded exact = record {
+  pub is_most : (most_trades : ℕ) (small : Type 0) → IsGradedWithin f.gain (grade_room most_trades)
+      → (small → IsExact f.gain) → IsMost small (Encloses f.gain 1) (sharpness most_trades) q bits
+  is_most most_trades small graded exact = record {
     within = covered;
-    nearly = near graded;
-    exactly = λ either. next (⊎_elim exact (one_exact graded) either);
+    nearly = near most_trades graded;
+    exactly = λ either. next (⊎_elim exact (one_exact most_trades graded) either);
   }
 
-pub most_for : (f : Factor) (bits : ℕ) → AreBitsOf f bits → (small : Type 0) (q : Fraction)
-    → IsFactorFor f small q → IsAtLeastOne q
-    → IsMost small (Encloses f.gain 1) q bits
-most_for f bits are small q for least = is_most f bits are q for.stands least small for.graded for.exact
+pub most_for : (f : Factor) (bits : ℕ) → AreBitsOf f bits → (most_trades : ℕ) (small : Type 0)
+    (q : Fraction) → IsFactorFor f most_trades small q → IsAtLeastOne q
+    → IsMost small (Encloses f.gain 1) (sharpness most_trades) q bits
+most_for f bits are most_trades small q for least =
+    is_most f bits are q for.stands least most_trades small for.graded for.exact

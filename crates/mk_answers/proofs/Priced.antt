@@ -11,7 +11,7 @@ use Rattle.mk_scaled.specs.Range.{IsInRange, two_to, two_to-suc, two_to-small, t
 use Rattle.mk_scaled.specs.Range.{mul_at_most, least_at_most}
 use Rattle.mk_scaled.specs.Rounding.{IsLeastAbove}
 use Rattle.mk_enclose.specs.declared.enclosure.Enclosure.{Enclosure}
-use Rattle.mk_enclose.specs.Enclosure.{upper_of}
+use Rattle.mk_enclose.specs.Enclosure.{upper_of, widest_grade}
 use Rattle.mk_semiring.specs.declared.held.Held.TheVariants.{Present}
 use Rattle.mk_beliefs.proofs.Weighed.{cases_are_all}
 use Rattle.mk_judge.specs.declared.price.PriceBounds.{PriceBounds}
@@ -41,8 +41,8 @@ sum_is_few small v w a b sum a_in b_in is =
 module _ (network : List Variable) (H : List Entry) (asked : Asked) where
   -- bounds that are found of a price
   found : 1 ≤ total network H (holds asked.condition) → (bounds : PriceBounds)
-      → AreBoundsOfPrice (2 ^ 17) network H asked bounds
-      → IsPriceBounded (2 ^ 17) network H asked (Some bounds)
+      → AreBoundsOfPrice widest_grade network H asked bounds
+      → IsPriceBounded widest_grade network H asked (Some bounds)
   found some bounds are = record {
     none = (
       λ e. absurd (cc),
@@ -54,7 +54,7 @@ module _ (network : List Variable) (H : List Entry) (asked : Asked) where
   -- where neither side weighs anything
   pub unbounded : IsNetwork network → IsProper network H
       → total network H (with_target asked) ≡ 0 → total network H (without_target asked) ≡ 0
-      → IsPriceBounded (2 ^ 17) network H asked None
+      → IsPriceBounded widest_grade network H asked None
   unbounded net proper no_hit no_miss =
       let all = cases_are_all network H asked in
       record {
@@ -69,7 +69,7 @@ module _ (network : List Variable) (H : List Entry) (asked : Asked) where
   -- where the target weighs nothing, and where nothing else does
   pub bounded_never : total network H (with_target asked) ≡ 0
       → 1 ≤ total network H (without_target asked)
-      → IsPriceBounded (2 ^ 17) network H asked (Some Never)
+      → IsPriceBounded widest_grade network H asked (Some Never)
   bounded_never no_hit some_miss =
       let all = cases_are_all network H asked in
       let some : 1 ≤ total network H (holds asked.condition) = omega (arith, all, some_miss) in
@@ -77,7 +77,7 @@ module _ (network : List Variable) (H : List Entry) (asked : Asked) where
 
   pub bounded_always : 1 ≤ total network H (with_target asked)
       → total network H (without_target asked) ≡ 0
-      → IsPriceBounded (2 ^ 17) network H asked (Some Always)
+      → IsPriceBounded widest_grade network H asked (Some Always)
   bounded_always some_hit no_miss =
       let all = cases_are_all network H asked in
       let some : 1 ≤ total network H (holds asked.condition) = omega (arith, all, some_hit) in
@@ -91,7 +91,7 @@ module _ (network : List Variable) (H : List Entry) (asked : Asked) where
   pub bounded_between : (part whole : Enclosure) → IsPartFor network H asked part
       → IsWholeFor network H asked whole → 1 ≤ total network H (without_target asked)
       → upper_of whole ≤ two_to (192 * (max_side_grade + 1) + 1)
-      → IsPriceBounded (2 ^ 17) network H asked (Some (Between part whole))
+      → IsPriceBounded widest_grade network H asked (Some (Between part whole))
   bounded_between part whole part_in whole_in some_miss few =
       let all = cases_are_all network H asked in
       let less : total network H (with_target asked) < total network H (holds asked.condition) =

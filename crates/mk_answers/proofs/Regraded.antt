@@ -1,8 +1,9 @@
 -- Evidence of exact numbers has whatever greatest grade its enclosures have.
-use Rattle.std.proofs.Common.{◌≡◌, ℕ, ◌≤◌, List, [], ◌∷◌, map, Bool, Option, Some, None, IfSome, subst, arith}
+use Rattle.std.proofs.Common.{◌≡◌, ℕ, ◌-◌, ◌≤◌, List, [], ◌∷◌, map, Bool, Option, Some, None, IfSome, subst, arith}
 use Rattle.std.specs.Prelude.{option_map, IsSomeAnd}
 use Rattle.std.specs.List.{AllByRecursion, AllZip}
 use Rattle.mk_net.specs.Asked.{Asked}
+use Rattle.mk_net.specs.Bounds.{grade_room}
 use Rattle.mk_net.specs.Network.{Variable}
 use Rattle.mk_exact.specs.Factors.{least_gain}
 use Rattle.mk_exact.specs.History.{Entry}
@@ -42,6 +43,16 @@ factor_within (Some x) g most small has = graded_within x.gain g most small has
 pub held_grade : (belief : Held) (e : Enclosure) (g : ℕ) → belief ≡ Present e
     → HasHeldGrade belief g → HasGrade e g
 held_grade belief e g is graded = (subst (λ (x : Held). HasHeldGrade x g) is graded).0
+
+-- where a belief leaves room for a step more, there is room for what it holds
+pub graded_of_present : (belief : Held) (e : Enclosure) (most_trades : ℕ) → belief ≡ Present e
+    → HasHeldGrade belief (grade_room most_trades - 1) → IsGradedWithin e (grade_room most_trades)
+graded_of_present belief e most_trades is graded =
+    graded_within e (grade_room most_trades - 1) (grade_room most_trades) (one_less (grade_room most_trades))
+    (held_grade belief e (grade_room most_trades - 1) is graded)
+  where
+    one_less : (room : ℕ) → room - 1 ≤ room
+    one_less room = omega arith
 
 -- and that of the factor that is found
 pub found_grade : (found : Option Factor) (f : Factor) (g : ℕ) → found ≡ Some f

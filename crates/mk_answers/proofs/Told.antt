@@ -1,11 +1,11 @@
 -- What is told of every value: its price, and what a user is sure of where it comes.
 use Rattle.std.proofs.Common.{◌≡◌, ℕ, zero, suc, ◌+◌, ◌<◌, ◌≤◌, Bool, true, false}
 use Rattle.std.proofs.Common.{List, [], ◌∷◌, ◌++◌, length, slice_index, Option, Some, None}
-use Rattle.std.proofs.Common.{IsNone, IfSome, ◌↔◌, ◌^◌, refl, sym, ap, subst, ◌∙◌, arith}
+use Rattle.std.proofs.Common.{IsNone, IfSome, ◌↔◌, refl, sym, ap, subst, ◌∙◌, arith}
 use Rattle.std.specs.List.{AllZip, AllByRecursion, range_with_len}
 use Rattle.mk_net.specs.declared.words.Pair.{Pair}
 use Rattle.mk_net.specs.Asked.{Asked}
-use Rattle.mk_net.specs.Bounds.{max_points_per_bit, max_values}
+use Rattle.mk_net.specs.Bounds.{max_points_per_bit, max_values, grade_room, sharpness}
 use Rattle.mk_net.specs.Events.{pairs_asked}
 use Rattle.mk_net.specs.Network.{Variable, sizes}
 use Rattle.mk_exact.specs.Cash.{CoversCash}
@@ -13,10 +13,11 @@ use Rattle.mk_states.specs.Events.{holds, with_target}
 use Rattle.mk_exact.specs.Existing.{IsInOrder}
 use Rattle.mk_exact.specs.Factors.{Fraction, HoldsNoTrade, gain, factor_with, least_gain}
 use Rattle.mk_exact.specs.Factors.{IsAtLeastOne}
-use Rattle.mk_exact.specs.History.{Entry, deposited, withdrawn}
+use Rattle.mk_exact.specs.History.{Entry, deposited, withdrawn, trades}
 use Rattle.mk_exact.specs.Sound.{IsSound}
 use Rattle.mk_exact.specs.Weight.{IsSmall, cannot_come, possible_states}
 use Rattle.mk_exact.proofs.Coming.{never_by_least}
+use Rattle.mk_exact.proofs.ExistBounds.{least_gain_at_most}
 use Rattle.mk_exact.proofs.ExistMarkets.{of_least, least_where}
 use Rattle.mk_cell.specs.Least.{least}
 use Rattle.mk_spread.specs.Spreads.{SpreadAsked, asked_of}
@@ -95,10 +96,10 @@ idle_least network H u test none =
     each_one (s ∷ ss) = (idle_gain H u none s, each_one ss)
 
 -- cash by what an enclosure tells is cash by what the market tells
-pub cash_for : (small idle exact one : Type 0) (q : Fraction) (b low high : ℕ) →
-    (small → exact) → (idle → one) → CoversCash exact one q b low high →
-    CoversCash small idle q b low high
-cash_for small idle exact one q b low high f g h = record {
+pub cash_for : (small idle exact one : Type 0) (near : ℕ) (q : Fraction) (b low high : ℕ) →
+    (small → exact) → (idle → one) → CoversCash exact one near q b low high →
+    CoversCash small idle near q b low high
+cash_for small idle exact one near q b low high f g h = record {
   cash = h.cash;
   is_cash = h.is_cash;
   above = h.above;
@@ -147,12 +148,15 @@ module _ (network : List Variable) (tree : GivenTree) (H : List Entry) (u : ℕ)
 
     module _ (close : most ≤ length (gains_of network tree H u).factors + max_grade + max_values)
       where
-        its : IsFactorFor f (IsSmall network H) (factor_with H u found)
-        its = factor_for network tree H u is_open found most result f is least_is close found refl
+        its : (most_trades : ℕ) → length (trades H) ≤ most_trades
+            → IsFactorFor f most_trades (IsSmall network H) (factor_with H u found)
+        its most_trades fit = factor_for network tree H u is_open found most result f is least_is
+            close most_trades fit found refl
 
         pub in_range : deposited H u ≤ max_bits → withdrawn H u ≤ max_bits → (b : ℕ) →
             b ≤ max_points_per_bit → HasPowersInRange f b
         in_range = factor_in_range network tree H u is_open found most result f is least_is close
+            (least_gain_at_most network H is_open.within u (holds event) found is_found)
 
         safe : IsSound network H → IsAtLeastOne (factor_with H u found)
         safe sound =
@@ -169,23 +173,26 @@ module _ (network : List Variable) (tree : GivenTree) (H : List Entry) (u : ℕ)
             encloses_least network tree H u is_open found most result f is least_is close 1 e
 
         -- its cash is what the user is sure of
-        pub sure : IsSound network H → (b low high : ℕ) →
-            ((q : Fraction) → StandsFor f q.num q.den → IsGradedWithin f.gain (2 ^ 17)
-            → IsAtLeastOne q →
-            CoversCash (IsExact f.gain) (Encloses f.gain 1) q b low high) →
-            CoversLeast network H u b (holds event) (low, high)
-        sure sound b low high covers =
+        pub sure : (most_trades : ℕ) → length (trades H) ≤ most_trades → IsSound network H →
+            (b low high : ℕ) →
+            ((q : Fraction) (most_trades : ℕ) → StandsFor f q.num q.den
+            → IsGradedWithin f.gain (grade_room most_trades) → IsAtLeastOne q →
+            CoversCash (IsExact f.gain) (Encloses f.gain 1) (sharpness most_trades) q b low high) →
+            CoversLeast network H most_trades u b (holds event) (low, high)
+        sure most_trades fit sound b low high covers =
+            let its_own = its most_trades fit in
             rw is_found
             (cash_for (IsSmall network H) (HoldsNoTrade H u) (IsExact f.gain) (Encloses f.gain 1)
-            (factor_with H u found) b low high its.exact one
-            (covers (factor_with H u found) its.stands its.graded (safe sound)))
+            (sharpness most_trades) (factor_with H u found) b low high its_own.exact one
+            (covers (factor_with H u found) most_trades its_own.stands its_own.graded (safe sound)))
 
 -- an event of a question's condition and target is that its target comes
-pub sure_asked : (network : List Variable) (H : List Entry) (u b : ℕ) (asked : Asked)
+pub sure_asked : (network : List Variable) (H : List Entry) (most_trades u b : ℕ) (asked : Asked)
     (event : List Pair)
-    (ends : ℕ × ℕ) → event ≡ pairs_asked asked → CoversLeast network H u b (holds event) ends →
-    CoversLeast network H u b (with_target asked) ends
-sure_asked network H u b asked event ends e h =
+    (ends : ℕ × ℕ) → event ≡ pairs_asked asked →
+    CoversLeast network H most_trades u b (holds event) ends →
+    CoversLeast network H most_trades u b (with_target asked) ends
+sure_asked network H most_trades u b asked event ends e h =
     rw (← target_is_least network H u asked) (rw e at h)
 
 pub none_asked : (network : List Variable) (H : List Entry) (u : ℕ) (asked : Asked)

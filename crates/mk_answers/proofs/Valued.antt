@@ -4,7 +4,7 @@ use Rattle.std.specs.Prelude.{option_map, is_some}
 use Rattle.std.specs.List.{AllZip, range_with_len}
 use Rattle.mk_net.specs.declared.words.Pair.{Pair}
 use Rattle.mk_net.specs.Asked.{Asked}
-use Rattle.mk_net.specs.Bounds.{max_values}
+use Rattle.mk_net.specs.Bounds.{max_market_trades, max_values}
 use Rattle.mk_net.specs.Events.{pairs_asked}
 use Rattle.mk_net.specs.Network.{Variable, sizes}
 use Rattle.mk_states.specs.Events.{holds, with_target}
@@ -80,7 +80,7 @@ module _ (network : List Variable) (tree : GivenTree) (H : List Entry) (u : ℕ)
         none = (λ e. absurd (cc), λ e. absurd (let no = comes in cc));
         bounds = record {
           part = part_for;
-          factor = λ g e. factor_for network tree H u is_open (exact_belief least (gains_of network tree H u) event) most result f same least_is close g
+          factor = λ g e. factor_for network tree H u is_open (exact_belief least (gains_of network tree H u) event) most result f same least_is close max_market_trades is_open.within.few_trades g
               (hit_gain network tree H u is_open asked event its_pairs g e).0;
         };
       }

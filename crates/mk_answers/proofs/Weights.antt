@@ -1,20 +1,22 @@
 -- The price engine's beliefs in a market in use.
-use Rattle.std.proofs.Common.{◌≡◌, ℕ, ◌+◌, ◌^◌, ◌≤◌, List, [], ◌∷◌, length, slice_index, sym, ap, subst, ◌∙◌, arith}
+use Rattle.std.proofs.Common.{◌≡◌, ℕ, ◌+◌, ◌-◌, ◌≤◌, List, [], ◌∷◌, length, slice_index, sym, ap, subst, ◌∙◌, arith, le_refl}
 use Rattle.std.proofs.lemmas.List.Elements.{All-from_recursion}
 use Rattle.mk_net.specs.declared.words.Pair.{Pair}
 use Rattle.mk_net.specs.Asked.{Asked}
+use Rattle.mk_net.specs.Bounds.{sharpness, grade_room}
 use Rattle.mk_net.specs.Events.{pairs_asked}
 use Rattle.mk_net.specs.Network.{Variable, sizes}
 use Rattle.mk_states.specs.Events.{holds, with_target, without_target}
-use Rattle.mk_exact.specs.History.{Entry}
+use Rattle.mk_exact.specs.History.{Entry, trades}
 use Rattle.mk_exact.specs.Weight.{total, IsSmall}
 use Rattle.mk_states.specs.OfNetwork.{IsPairOf, IsQuestionOf}
 use Rattle.mk_exact.specs.Prices.{exact_price, CoversPrice}
+use Rattle.mk_exact.proofs.Sharp.{sharp_enough}
 use Rattle.mk_states.proofs.Sums.{each-append}
 use Rattle.mk_tree.specs.Given.{GivenTree}
 use Rattle.mk_scaled.specs.Near.{near_more}
 use Rattle.mk_enclose.specs.declared.enclosure.Enclosure.{Enclosure}
-use Rattle.mk_enclose.specs.Enclosure.{lower_of, upper_of, HasGrade, IsExact}
+use Rattle.mk_enclose.specs.Enclosure.{lower_of, upper_of, HasGrade, IsExact, IsGradedWithin}
 use Rattle.mk_semiring.specs.declared.held.Held.{Held}
 use Rattle.mk_semiring.specs.declared.held.Held.TheVariants.{Present}
 use Rattle.mk_semiring.specs.Held.{HeldEncloses, HasHeldGrade, IsHeldExact, held_grade_more}
@@ -27,8 +29,9 @@ use Rattle.mk_beliefs.proofs.Grown.{factors_are_few}
 use Rattle.mk_answers.specs.Open.{IsOpen}
 use Rattle.mk_answers.specs.inner.Found.{IsThere, IsBeliefIn, IsPartFor, IsWholeFor, max_side_grade}
 use Rattle.mk_answers.proofs.Weaker.{covers_when}
-use Rattle.mk_answers.proofs.Parts.{ArePartsOf, parts_cover}
+use Rattle.mk_answers.proofs.Parts.{ArePartsOf, parts_cover, room_is_wide}
 use Rattle.mk_answers.proofs.Presence.{some_weight}
+use Rattle.mk_answers.proofs.Room.{weights_room}
 
 grade_more : (e : Enclosure) (g h : ℕ) → g ≤ h → HasGrade e g → HasGrade e h
 grade_more e g h l has = record { near = near_more (lower_of e) (upper_of e) g h l has.near }
@@ -54,6 +57,20 @@ module _ (network : List Variable) (tree : GivenTree) (H : List Entry) (is_open 
     grade = held_grade_more belief (length (weights_of network tree H).factors + max_grade) max_side_grade b.grade (omega (arith, few));
     exact = λ s. b.exact (weights_are_small network tree H s);
   }
+
+  -- its grade leaves room for a step more
+  module _ (most_trades : ℕ) (fit : length (trades H) ≤ most_trades) where
+    pub event_graded : (event : List Pair) (belief : Held) → IsWeightOf network tree H event belief
+        → HasHeldGrade belief (grade_room most_trades - 1)
+    event_graded event belief b = held_grade_more belief
+        (length (weights_of network tree H).factors + max_grade) (grade_room most_trades - 1) b.grade
+        (omega (arith, weights_room network tree H is_open most_trades fit))
+
+    pub others_graded : (asked : Asked) (values : ℕ) (belief : Held)
+        → IsOthersBelief HeldEncloses HasHeldGrade IsHeldExact ◌+◌ (weights_of network tree H) asked values belief
+        → HasHeldGrade belief (grade_room most_trades - 1)
+    others_graded asked values belief b = held_grade_more belief _ (grade_room most_trades - 1)
+        b.grade (weights_room network tree H is_open most_trades fit)
 
   module _ (asked : Asked) where
     pub hit_in : (event : List Pair) (belief : Held) → event ≡ pairs_asked asked → IsWeightOf network tree H event belief
@@ -86,12 +103,16 @@ module _ (network : List Variable) (H : List Entry) (asked : Asked) where
     pub ends_in_order : lower_of num ≤ upper_of den
     ends_in_order = omega (arith, num_in.encloses.lower, den_in.encloses.upper, hit_share)
 
-    pub interval_covers : 1 ≤ total network H (without_target asked) → (low high : ℕ) → ArePartsOf num den low high → CoversPrice (IsSmall network H) (exact_price network H asked) low high
-    interval_covers rest low high parts =
+    pub interval_covers : (most_trades : ℕ) → IsGradedWithin num (grade_room most_trades)
+        → IsGradedWithin den (grade_room most_trades)
+        → 1 ≤ total network H (without_target asked) → (low high : ℕ) → ArePartsOf num den low high
+        → CoversPrice (IsSmall network H) (sharpness most_trades) (exact_price network H asked) low high
+    interval_covers most_trades num_graded den_graded rest low high parts =
         let all = cases_are_all network H asked in
-        covers_when (IsSmall network H) (IsExact num × IsExact den) (λ s. (num_in.exact s, den_in.exact s)) (exact_price network H asked) low high
-        (parts_cover num den _ _ (2 ^ 17) low high num_in.encloses den_in.encloses (some_weight den _ den_in.encloses) hit_share (omega (arith, all)) (omega arith)
-        (grade_more num max_side_grade (2 ^ 17) (omega arith) num_in.grade.0) (grade_more den den_in.graded.grade (2 ^ 17) den_in.graded.small den_in.graded.has) parts)
+        covers_when (IsSmall network H) (IsExact num × IsExact den) (λ s. (num_in.exact s, den_in.exact s)) (sharpness most_trades) (exact_price network H asked) low high
+        (parts_cover (sharpness most_trades) (grade_room most_trades) (room_is_wide most_trades) (sharp_enough most_trades)
+        num den _ _ (grade_room most_trades) low high num_in.encloses den_in.encloses (some_weight den _ den_in.encloses) hit_share (omega (arith, all)) (le_refl _)
+        (grade_more num num_graded.grade (grade_room most_trades) num_graded.small num_graded.has) (grade_more den den_graded.grade (grade_room most_trades) den_graded.small den_graded.has) parts)
 
 -- the network's own pairs, in a condition
 pub condition_fits : (network : List Variable) (asked : Asked) (event : List Pair) → event ≡ asked.condition → IsQuestionOf network asked → ArePairsOf network event

@@ -1,8 +1,9 @@
 -- A market in use, what the engines stand for there, and what the numbers of its answers owe the exact ones.
-use Rattle.std.specs.Prelude.{◌≡◌, ℕ, ◌^◌, List, Option, true, is_some}
+use Rattle.std.specs.Prelude.{◌≡◌, ℕ, List, Option, true, is_some}
 use Rattle.std.specs.List.{AllByRecursion}
 use Rattle.mk_net.specs.Network.{Variable, IsNetwork}
 use Rattle.mk_net.specs.Asked.{Asked}
+use Rattle.mk_net.specs.Bounds.{grade_room}
 use Rattle.mk_net.specs.Events.{pairs_asked}
 use Rattle.mk_exact.specs.History.{Entry, resolutions, deposited, withdrawn}
 use Rattle.mk_exact.specs.Factors.{Fraction}
@@ -60,8 +61,10 @@ pub record AreSideBoundsFor (values : List (Option SideBounds)) (small : Type 0)
   pub graded : AreEachGraded values
   pub exact : small → AreEachExact values
 
--- the factor stands for the fraction, with its grade, and is exact in the small case
-pub record IsFactorFor (factor : Factor) (small : Type 0) (q : Fraction) : Type 0 where
-  pub stands : StandsFor factor q.num q.den
-  pub graded : IsGradedWithin factor.gain (2 ^ 17)
-  pub exact : small → IsExact factor.gain
+-- the factor stands for the fraction, with a grade for which there is room in a market of so many
+-- trades, and is exact in the small case
+pub record IsFactorFor (factor : Factor) (most_trades : ℕ) (small : Type 0) (q : Fraction) : Type 0
+  where
+    pub stands : StandsFor factor q.num q.den
+    pub graded : IsGradedWithin factor.gain (grade_room most_trades)
+    pub exact : small → IsExact factor.gain

@@ -2,6 +2,7 @@
 use Rattle.std.specs.Prelude.{◌≡◌, ℕ, ◌+◌, ◌≤◌, List, [], ◌∷◌, ◌++◌, length, true, false, if◌then◌else◌, Option, Some, None, IsNone, IfSome, option_map, ◌↔◌}
 use Rattle.mk_net.specs.declared.words.Pair.{Pair}
 use Rattle.mk_net.specs.Asked.{Asked}
+use Rattle.mk_net.specs.Bounds.{sharpness}
 use Rattle.mk_net.specs.Network.{Variable}
 use Rattle.mk_states.specs.Events.{holds, with_target, without_target}
 use Rattle.mk_exact.specs.History.{Entry}
@@ -18,10 +19,13 @@ use Rattle.mk_answers.specs.declared.spread.SpreadSides.{SpreadSides}
 use Rattle.mk_answers.specs.declared.spread.SpreadSides.TheVariants.{Open as OpenSpread, Impossible as ImpossibleSpread, Sure as SureSpread}
 use Rattle.mk_answers.specs.Open.{AreBoundsFor, AreSideBoundsFor}
 
--- an interval that covers the exact price, or none where the condition cannot come
-pub record IsPriceFor (network : List Variable) (H : List Entry) (asked : Asked) (found : Option (ℕ × ℕ)) : Type 0 where
+-- an interval that covers the exact price, as sharply as a market of so many trades does, or none
+-- where the condition cannot come
+pub record IsPriceFor (network : List Variable) (H : List Entry) (most_trades : ℕ) (asked : Asked)
+    (found : Option (ℕ × ℕ)) : Type 0 where
   pub none : IsNone found ↔ (cannot_come network H (holds asked.condition) ≡ true)
-  pub covers : IfSome found (λ (price : ℕ × ℕ). CoversPrice (IsSmall network H) (exact_price network H asked) price.0 price.1)
+  pub covers : IfSome found (λ (price : ℕ × ℕ). CoversPrice (IsSmall network H) (sharpness most_trades)
+      (exact_price network H asked) price.0 price.1)
 
 -- the place, from 0, of the first pair of a list with which, beside some pairs and those before it, no possible state is left
 abbrev pub first_impossible : List Variable → List Entry → List Pair → List Pair → Option ℕ

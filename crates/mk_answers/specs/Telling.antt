@@ -20,30 +20,33 @@ use Rattle.mk_assets.specs.declared.assets.Assets.{Assets}
 use Rattle.mk_assets.specs.Holdings.{Owns}
 use Rattle.mk_answers.specs.Open.{IsOpen, CanBeSpreadHere, holding_of}
 
--- intervals that cover the price of each value where the condition can come, and none where it
--- cannot
+-- intervals that cover the price of each value where the condition can come, as sharply as a market
+-- of so many trades does, and none where it cannot
 abbrev pub ArePricesFor :
-    List Variable → List Entry → SpreadAsked → Option (ArrayVec (ℕ × ℕ)) → Type 0
-ArePricesFor network H spread None = cannot_come network H (holds spread.condition) ≡ true
-ArePricesFor network H spread (Some intervals) =
+    List Variable → List Entry → ℕ → SpreadAsked → Option (ArrayVec (ℕ × ℕ)) → Type 0
+ArePricesFor network H most_trades spread None =
+    cannot_come network H (holds spread.condition) ≡ true
+ArePricesFor network H most_trades spread (Some intervals) =
     (cannot_come network H (holds spread.condition) ≡ false)
-    × ArePricesOf network H spread intervals.items
+    × ArePricesOf network H most_trades spread intervals.items
 
 -- the same of what a user is sure of, where the history is sound
 abbrev pub IsPositionFor :
-    List Variable → List Entry → ℕ → ℕ → SpreadAsked → Option (ArrayVec (Option (ℕ × ℕ))) → Type 0
-IsPositionFor network H u points_per_bit spread None =
+    List Variable → List Entry → ℕ → ℕ → ℕ → SpreadAsked → Option (ArrayVec (Option (ℕ × ℕ)))
+    → Type 0
+IsPositionFor network H most_trades u points_per_bit spread None =
     cannot_come network H (holds spread.condition) ≡ true
-IsPositionFor network H u points_per_bit spread (Some intervals) =
+IsPositionFor network H most_trades u points_per_bit spread (Some intervals) =
     (cannot_come network H (holds spread.condition) ≡ false)
-    × (IsSound network H → IsPositionOf network H u points_per_bit spread intervals.items)
+    × (IsSound network H
+    → IsPositionOf network H most_trades u points_per_bit spread intervals.items)
 
 -- the cash of a user's least factor where a question's target comes, or none where it cannot
 abbrev pub IsSureAt :
-    List Variable → List Entry → ℕ → ℕ → Asked → Option (ℕ × ℕ) → Type 0
-IsSureAt network H u points_per_bit asked interval =
+    List Variable → List Entry → ℕ → ℕ → ℕ → Asked → Option (ℕ × ℕ) → Type 0
+IsSureAt network H most_trades u points_per_bit asked interval =
     MatchOption interval (least_gain network H u (with_target asked) ≡ None)
-    (CoversLeast network H u points_per_bit (with_target asked))
+    (CoversLeast network H most_trades u points_per_bit (with_target asked))
 
 -- the engine has the weights of a market in use of this network, where the question about every
 -- value can be answered, and a clique holds it

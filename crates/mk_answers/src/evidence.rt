@@ -1,8 +1,9 @@
 //! What a judge of printed numbers asks: enclosures of the exact ones, before they are rounded.
-ghost use Rattle.std.specs.Prelude.{◌≡◌, ℕ, ◌+◌, ◌^◌, ◌≤◌, List, IfSome};
+ghost use Rattle.std.specs.Prelude.{◌≡◌, ℕ, ◌+◌, ◌≤◌, List, IfSome};
 ghost use Rattle.mk_states.specs.Events.{with_target};
 ghost use Rattle.mk_exact.specs.History.{Entry};
 ghost use Rattle.mk_exact.specs.Proper.{IsProper};
+ghost use Rattle.mk_enclose.specs.Enclosure.{widest_grade};
 ghost use Rattle.mk_tree.specs.Given.{GivenTree};
 ghost use Rattle.mk_engine.specs.Meaning.{Meaning};
 ghost use Rattle.mk_beliefs.specs.Meanings.{weights_of, rows_of};
@@ -67,7 +68,7 @@ fn bounds_of_beliefs(part: &Held, rest: &Held) -> Option<PriceBounds>
     requires { HasSides part.now rest.now }
     ensures bounds { (network : List Variable) (H : List Entry) (asked : Asked) → IsNetwork network
         → IsProper network H → AreSidesIn network H asked part.now rest.now
-        → IsPriceBounded (2 ^ 17) network H asked result }
+        → IsPriceBounded widest_grade network H asked result }
     ensures graded { (g most : ℕ) → HasHeldGrade part.now g → HasHeldGrade rest.now g
         → g + 1 ≤ most → IfSome result (ArePriceGraded most) }
 {

@@ -1,7 +1,7 @@
 //! What is told of every value of a variable: its price, and what a user is sure of where it comes.
-ghost use Rattle.std.specs.Prelude.{◌≡◌, ◌≤◌, ℕ, List};
+ghost use Rattle.std.specs.Prelude.{◌≡◌, ◌≤◌, ℕ, List, length};
 ghost use Rattle.mk_net.specs.Bounds.{max_points_per_bit};
-ghost use Rattle.mk_exact.specs.History.{Entry};
+ghost use Rattle.mk_exact.specs.History.{Entry, trades};
 ghost use Rattle.mk_exact.specs.Sound.{IsSound};
 ghost use Rattle.mk_tree.specs.Given.{GivenTree};
 ghost use Rattle.mk_engine.specs.Meaning.{Meaning};
@@ -34,10 +34,10 @@ pub fn prices_of<P: Engine<SumProd>>(
 ) -> Option<ArrayVec<(u64, u64), 16>>
     requires { CanTellPrices P.stands_for prices.old net.now at (spread_in asked.now) }
     ensures kept { (m : Meaning) → P.stands_for prices.old m → P.stands_for prices.new m }
-    ensures prices { (tree : GivenTree) (H : List Entry)
+    ensures prices { (tree : GivenTree) (H : List Entry) (most_trades : ℕ)
         → P.stands_for prices.old (weights_of net.now tree H) → IsOpen net.now tree H
-        → CanBeSpreadHere net.now tree H (spread_in asked.now)
-        → ArePricesFor net.now H (spread_in asked.now) result }
+        → length (trades H) ≤ most_trades → CanBeSpreadHere net.now tree H (spread_in asked.now)
+        → ArePricesFor net.now H most_trades (spread_in asked.now) result }
 {
     let mut intervals = ArrayVec::new();
     for value in 0..net.values(asked.variable) {
@@ -67,10 +67,10 @@ pub fn position_of<A: Engine<MinProd>>(
     requires assets { CanTellPosition A.stands_for assets.old net.now at (spread_in asked.now) }
     ensures kept_assets { (h : Holding) → Owns A.stands_for assets.old h
         → Owns A.stands_for assets.new h }
-    ensures position { (tree : GivenTree) (H : List Entry) (u : ℕ)
+    ensures position { (tree : GivenTree) (H : List Entry) (most_trades u : ℕ)
         → Owns A.stands_for assets.old (holding_of net.now tree H u) → IsOpen net.now tree H
-        → CanBeSpreadHere net.now tree H (spread_in asked.now)
-        → IsPositionFor net.now H u points_per_bit (spread_in asked.now) result }
+        → length (trades H) ≤ most_trades → CanBeSpreadHere net.now tree H (spread_in asked.now)
+        → IsPositionFor net.now H most_trades u points_per_bit (spread_in asked.now) result }
 {
     let Some(_) = assets.least(at, &asked.condition) else {
         return None;
@@ -97,9 +97,10 @@ fn sure_of<A: Engine<MinProd>>(
     requires assets { CanFindSure A.stands_for assets.old net.now at asked.now }
     ensures kept_assets { (h : Holding) → Owns A.stands_for assets.old h
         → Owns A.stands_for assets.new h }
-    ensures sure { (tree : GivenTree) (H : List Entry) (u : ℕ)
+    ensures sure { (tree : GivenTree) (H : List Entry) (most_trades u : ℕ)
         → Owns A.stands_for assets.old (holding_of net.now tree H u) → IsOpen net.now tree H
-        → IsSound net.now H → IsSureAt net.now H u points_per_bit asked.now result }
+        → length (trades H) ≤ most_trades → IsSound net.now H
+        → IsSureAt net.now H most_trades u points_per_bit asked.now result }
 {
     match assets.least(at, &asked.event()) {
         None => None,

@@ -1,12 +1,12 @@
 //! The least that a user owns, whatever comes.
-ghost use Rattle.std.specs.Prelude.{◌≡◌, ℕ, ◌≤◌, List, Some};
-ghost use Rattle.mk_net.specs.Bounds.{max_points_per_bit};
+ghost use Rattle.std.specs.Prelude.{◌≡◌, ℕ, ◌≤◌, List, length, Some};
+ghost use Rattle.mk_net.specs.Bounds.{max_points_per_bit, sharpness};
 ghost use Rattle.mk_net.specs.Network.{Variable};
 ghost use Rattle.mk_exact.specs.Accepted.{Covers, IsMost};
 ghost use Rattle.mk_states.specs.Events.{always};
 ghost use Rattle.mk_exact.specs.Factors.{Fraction, HoldsNoTrade, IsAtLeastOne, factor_with};
 ghost use Rattle.mk_exact.specs.Factors.{least_gain};
-ghost use Rattle.mk_exact.specs.History.{Entry};
+ghost use Rattle.mk_exact.specs.History.{Entry, trades};
 ghost use Rattle.mk_exact.specs.Weight.{IsSmall};
 ghost use Rattle.mk_tree.specs.Given.{GivenTree};
 ghost use Rattle.mk_enclose.specs.Enclosure.{Encloses};
@@ -29,9 +29,11 @@ use mk_semiring::MinProd;
 pub fn least_of<A: Engine<MinProd>>(assets: &mut Assets<A>) -> Factor
     requires { CanFindWorst A.stands_for assets.old }
     ensures kept { (h : Holding) → Owns A.stands_for assets.old h → Owns A.stands_for assets.new h }
-    ensures least { (network : List Variable) (tree : GivenTree) (H : List Entry) (u g : ℕ)
-        → Owns A.stands_for assets.old (holding_of network tree H u) → IsOpen network tree H → least_gain network H u always ≡ Some g
-        → IsFactorFor result (IsSmall network H) (factor_with H u g) }
+    ensures least { (network : List Variable) (tree : GivenTree) (H : List Entry)
+        (most_trades u g : ℕ) → Owns A.stands_for assets.old (holding_of network tree H u)
+        → IsOpen network tree H → length (trades H) ≤ most_trades
+        → least_gain network H u always ≡ Some g
+        → IsFactorFor result most_trades (IsSmall network H) (factor_with H u g) }
     ensures idle { (network : List Variable) (tree : GivenTree) (H : List Entry) (u : ℕ)
         → Owns A.stands_for assets.old (holding_of network tree H u) → IsOpen network tree H
         → HoldsNoTrade H u → Encloses result.gain 1 }
@@ -46,13 +48,14 @@ pub fn least_of<A: Engine<MinProd>>(assets: &mut Assets<A>) -> Factor
 
 /// The most bits that can be taken from a factor of at least one: the greatest number in the small
 /// case and where the gain is one. Else it may be one less where the factor is less than a part in
-/// 2^43 - 1 above a whole power of two.
+/// 2^43 - 1 above a whole power of two, or one in 2^40 - 1 in a market of more than 65,536 trades.
 pub fn most_bits(factor: &Factor) -> u64
-    ensures most { (network : List Variable) (H : List Entry) (q : Fraction)
-        → IsFactorFor factor.now (IsSmall network H) q → IsAtLeastOne q
-        → IsMost (IsSmall network H) (Encloses factor.now.gain 1) q result }
-    ensures covered { (network : List Variable) (H : List Entry) (q : Fraction) (bits : ℕ)
-        → IsFactorFor factor.now (IsSmall network H) q → IsAtLeastOne q → bits ≤ result → Covers q bits }
+    ensures most { (network : List Variable) (H : List Entry) (most_trades : ℕ) (q : Fraction)
+        → IsFactorFor factor.now most_trades (IsSmall network H) q → IsAtLeastOne q
+        → IsMost (IsSmall network H) (Encloses factor.now.gain 1) (sharpness most_trades) q result }
+    ensures covered { (network : List Variable) (H : List Entry) (most_trades : ℕ) (q : Fraction)
+        (bits : ℕ) → IsFactorFor factor.now most_trades (IsSmall network H) q → IsAtLeastOne q
+        → bits ≤ result → Covers q bits }
 {
     factor.whole_bits()
 }

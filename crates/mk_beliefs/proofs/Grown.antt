@@ -1,11 +1,11 @@
 -- How the meanings begin, and what one more entry does to them.
-use Rattle.std.proofs.Common.{◌≡◌, ℕ, ◌≤◌, Bool, true, false, cond, ◌⊎◌, inl, inr, eqb, List, [], ◌∷◌, ◌++◌, map, length, filter, None, refl, sym, ap, ap₂, ◌∙◌, arith, append-nil, append_assoc, length-append, eq-eqb, ne_eqb}
+use Rattle.std.proofs.Common.{◌≡◌, ℕ, ◌+◌, ◌≤◌, Bool, true, false, cond, ◌⊎◌, inl, inr, eqb, List, [], ◌∷◌, ◌++◌, map, length, filter, None, refl, sym, ap, ap₂, ◌∙◌, arith, append-nil, append_assoc, length-append, eq-eqb, ne_eqb}
 use Rattle.std.specs.List.{AllByRecursion}
 use Rattle.std.proofs.lemmas.Bool.{cases_eq}
 use Rattle.std.proofs.lemmas.List.{map-append, length-map}
 use Rattle.std.proofs.lemmas.List.FromFn.{length-map-range_with_len, length-range_with_len}
 use Rattle.mk_net.specs.declared.words.Pair.{Pair}
-use Rattle.mk_net.specs.Bounds.{max_market_trades}
+use Rattle.mk_net.specs.Bounds.{max_variables, max_market_trades}
 use Rattle.mk_net.specs.Network.{Variable, IsNetwork}
 use Rattle.mk_net.specs.Zeros.{has_zero, with_zeros}
 use Rattle.mk_states.specs.States.{numbers_below}
@@ -94,9 +94,11 @@ module _ (network : List Variable) (tree : GivenTree) where
         at true l = omega arith
         at false l = omega arith
 
-    pub factors_are_few : (u : ℕ) → IsNetwork network → length (trades H) ≤ max_market_trades
-        → (length (weights_of network tree H).factors ≤ max_factors) × (length (gains_of network tree H u).factors ≤ max_factors)
-    factors_are_few u net few =
+    -- at most one factor for each variable, and one for each trade
+    pub factors_by_trades : (u : ℕ) → IsNetwork network
+        → (length (weights_of network tree H).factors ≤ max_variables + length (trades H))
+        × (length (gains_of network tree H u).factors ≤ max_variables + length (trades H))
+    factors_by_trades u net =
         let ratio : UserTrade → Factor = λ (t : UserTrade). RatioOf t.ratio in
         let both = length-append (map RowsOf (numbers_below (length network))) (map ratio (trades H)) in
         let rows = length-map-range_with_len RowsOf 0 (length network) in
@@ -107,7 +109,13 @@ module _ (network : List Variable) (tree : GivenTree) where
         let few_supports = some_of (has_zero network) (numbers_below (length network)) in
         let numbers = length-range_with_len 0 (length network) in
         let part = some_of (λ (t : UserTrade). eqb t.user u) (trades H) in
-        (omega (arith, both, rows, all, net.few, few), omega (arith, own, part, few, zeros, supports, few_supports, numbers, net.few))
+        (omega (arith, both, rows, all, net.few), omega (arith, own, part, zeros, supports, few_supports, numbers, net.few))
+
+    pub factors_are_few : (u : ℕ) → IsNetwork network → length (trades H) ≤ max_market_trades
+        → (length (weights_of network tree H).factors ≤ max_factors) × (length (gains_of network tree H u).factors ≤ max_factors)
+    factors_are_few u net few =
+        let by = factors_by_trades u net in
+        (omega (arith, by.0, few), omega (arith, by.1, few))
 
   pub opening_is_rows : (u : ℕ) → (weights_of network tree [] ≡ record { network = network; tree = tree; factors = map RowsOf (numbers_below (length network)); known = [] })
       × (gains_of network tree [] u ≡ record { network = network; tree = tree; factors = map SupportOf (with_zeros network); known = [] })

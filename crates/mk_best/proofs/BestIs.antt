@@ -7,15 +7,17 @@ use Rattle.std.proofs.lemmas.List.Elements.{All-from_recursion}
 use Rattle.std.proofs.lemmas.Bool.{cases_lt}
 use Rattle.std.proofs.Math.Nat.{le_of_mul-le-mul_right}
 use Rattle.mk_net.specs.declared.words.Pair.{Pair}
+use Rattle.mk_net.specs.Bounds.{sharpness}
 use Rattle.mk_net.specs.Network.{Variable, IsNetwork, sizes}
 use Rattle.mk_states.specs.Events.{holds, always}
-use Rattle.mk_exact.specs.History.{Entry}
+use Rattle.mk_exact.specs.History.{Entry, trades}
 use Rattle.mk_states.specs.InitialWeight.{can_come, value_at}
 use Rattle.mk_exact.specs.Prices.{CoversPrice}
 use Rattle.mk_states.specs.OfNetwork.{IsPairOf}
 use Rattle.mk_exact.specs.Proper.{IsProper}
 use Rattle.mk_states.specs.States.{IsState}
 use Rattle.mk_exact.specs.Weight.{IsSmall, weight, total, is_possible, possible_states}
+use Rattle.mk_exact.proofs.Sharp.{sharp, price_covers_more}
 use Rattle.mk_states.proofs.Listed.{as_many}
 use Rattle.mk_states.proofs.Sums.{sum_by_is}
 use Rattle.mk_sums.proofs.Grades.{sums_lawful}
@@ -43,6 +45,7 @@ use Rattle.mk_best.proofs.Maxima.{no_weight, weight_alone, greatest_narrow, grea
 use Rattle.mk_best.proofs.Maxima.{greatest_learned, greatest_at_most, none_weighs, weight_learned}
 use Rattle.mk_best.proofs.Maxima.{possible_learned}
 use Rattle.mk_best.proofs.Certified.{one_ceiling, some_near}
+use Rattle.mk_best.proofs.Shares.{covers_learned}
 
 where_true : (b : Bool) (n : ℕ) → 1 ≤ cond b n 0 → (b ≡ true) × (cond b n 0 ≡ n)
 where_true true n h = (refl, refl)
@@ -101,12 +104,12 @@ module _ (network : List Variable) (H : List Entry) (pairs : List Pair)
       (sym (greatest_left network H pairs) ∙ weight_left)
       (greatest_narrow network H always (holds pairs) (λ s e. refl))
 
-  pub near_best : IsNear (weight network H found.values) (greatest network H always) (2 ^ 25)
-  near_best = subst (λ n. IsNear n (greatest network H always) (2 ^ 25)) weight_left
+  pub near_best : IsNear (weight network H found.values) (greatest network H always) (2 ^ 28)
+  near_best = subst (λ n. IsNear n (greatest network H always) (2 ^ 28)) weight_left
       (near_more (greatest network (learned H pairs) always) (greatest network H always)
-      (max_side_grade * length network) (2 ^ 25) few found.near)
+      (max_side_grade * length network) (2 ^ 28) few found.near)
     where
-      few : max_side_grade * length network ≤ 2 ^ 25
+      few : max_side_grade * length network ≤ 2 ^ 28
       few = let l = legal.few in omega (arith, l)
 
   -- a possible state that is before it weighs less
@@ -193,7 +196,7 @@ module _ (network : List Variable) (H : List Entry) (pairs : List Pair)
 
   pub is_best : (low high most : ℕ) (value : Enclosure)
       → 1 ≤ total network H always
-      → CoversPrice (IsSmall network H)
+      → CoversPrice (IsSmall network H) (sharpness (length (trades H)))
       (record { num = total network H (holds pairs); den = total network H always }) low high
       → IsCertificate value most (IsSmall network H) (weight network H found.values)
       (greatest network H always) (total network H always)
@@ -206,16 +209,23 @@ module _ (network : List Variable) (H : List Entry) (pairs : List Pair)
     its_weight = certified.of_state;
     weight_of_best = certified.of_best;
     width = certified.width;
-    covers = subst (λ (n : ℕ). CoversPrice (IsSmall network H)
+    covers = subst (λ (n : ℕ). CoversPrice (IsSmall network H) (sharpness (length (trades H)))
         (record { num = n; den = total network H always }) low high) total_left covers;
     at_most = certified.at_least;
     narrow = certified.near low low_at_most
-        (subst (λ n. 10 ^ 10 * n * (2 ^ 42 - 1) < (low + 1) * total network H always * 2 ^ 42)
-        total_left covers.low_near);
+        (subst (λ n. 10 ^ 10 * n * (2 ^ 39 - 1) < (low + 1) * total network H always * 2 ^ 39)
+        total_left near_enough);
     first = first_best;
     same = λ s. same_units s;
   }
     where
+      near_enough : 10 ^ 10 * total network H (holds pairs) * (2 ^ 39 - 1)
+          < (low + 1) * total network H always * 2 ^ 39
+      near_enough = (price_covers_more (IsSmall network H) (2 ^ 39)
+          (sharpness (length (trades H)))
+          (record { num = total network H (holds pairs); den = total network H always }) low high
+          (omega arith) (sharp (length (trades H))) covers).low_near
+
       low_at_most : low ≤ 10 ^ 10
       low_at_most =
           let m : low * total network H always ≤ high * total network H always =
@@ -292,7 +302,7 @@ module _ (network : List Variable) (H : List Entry) (pairs : List Pair)
   }
 
   pub best_found : (low high most : ℕ) (value : Enclosure) (s : List ℕ) → s ≡ values_in pairs
-      → CoversPrice (IsSmall network H)
+      → CoversPrice (IsSmall network H) (sharpness (length (trades H)))
       (record { num = total network H (holds pairs); den = total network H always }) low high
       → IsCertificate value most (IsSmall network H) (weight network H found.values)
       (greatest network H always) (total network H always)
@@ -328,12 +338,16 @@ best_of_given network H given (Found low high most value s) legal proper h =
         width = b.width;
         covers =
             covers_when (IsSmall network H) (IsSmall network (learned H given))
-            (small_learned H given network) _ low high
+            (small_learned H given network) (sharpness (length (trades H))) _ low high
             (subst (λ (n : ℕ). CoversPrice (IsSmall network (learned H given))
-            (record { num = weight network H s; den = n }) low high) all
+            (sharpness (length (trades H))) (record { num = weight network H s; den = n }) low high)
+            all
             (subst (λ (n : ℕ). CoversPrice (IsSmall network (learned H given))
+            (sharpness (length (trades H)))
             (record { num = n; den = total network (learned H given) always }) low high) its
-            b.covers));
+            (covers_learned (IsSmall network (learned H given)) H given
+            (weight network (learned H given) s) (total network (learned H given) always) low high
+            b.covers)));
         at_most =
             subst (λ n. 10 ^ 10 * n ≤ most * total network H (holds given)) top
             (subst (λ n. 10 ^ 10 * greatest network (learned H given) always ≤ most * n) all

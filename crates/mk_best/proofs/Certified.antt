@@ -9,6 +9,7 @@ use Rattle.std.proofs.Math.Nat.{mul-lt-mul_of_pos_right, lt_of_mul-lt-mul_right,
 use Rattle.mk_scaled.specs.Near.{IsNear, near_width, near_trans, near_more, near_between}
 use Rattle.mk_enclose.specs.declared.enclosure.Enclosure.{Enclosure}
 use Rattle.mk_enclose.specs.Enclosure.{lower_of, upper_of, Encloses, HasGrade, IsExact}
+use Rattle.mk_enclose.specs.Enclosure.{widest_grade}
 use Rattle.mk_semiring.specs.declared.held.Held.{Held}
 use Rattle.mk_semiring.specs.declared.held.Held.TheVariants.{Absent, Present}
 use Rattle.mk_semiring.specs.Held.{HeldEncloses}
@@ -56,40 +57,40 @@ far_share k n u p t w v l c d a b less more share under over near low c_some d_s
         omega (arith, fourth, x)
 
 -- and so k is not far above l
-few_units : (k n u p t w v low : ℕ) → k * n < u * p → t * (2 ^ 60 - 2 ^ 17) ≤ n * 2 ^ 60
-    → p * (2 ^ 60 - 2 ^ 17) ≤ w * 2 ^ 60 → w * (2 ^ 60 - 2 ^ 25) ≤ v * 2 ^ 60
-    → u * v * (2 ^ 42 - 1) < (low + 1) * t * 2 ^ 42 → low ≤ 10 ^ 10 → k ≤ low + 4
+few_units : (k n u p t w v low : ℕ) → k * n < u * p → t * (2 ^ 60 - widest_grade) ≤ n * 2 ^ 60
+    → p * (2 ^ 60 - widest_grade) ≤ w * 2 ^ 60 → w * (2 ^ 60 - 2 ^ 28) ≤ v * 2 ^ 60
+    → u * v * (2 ^ 39 - 1) < (low + 1) * t * 2 ^ 39 → low ≤ 10 ^ 10 → k ≤ low + 4
 few_units k n u p t w v low share under over near less most =
-    let x = far_share k n u p t w v (low + 1) (2 ^ 60 - 2 ^ 17) (2 ^ 60) (2 ^ 60 - 2 ^ 25) (2 ^ 60)
-    (2 ^ 42 - 1) (2 ^ 42) share under over near less (omega arith) (omega arith) (omega arith)
-    (omega arith) (omega arith) in
+    let x = far_share k n u p t w v (low + 1) (2 ^ 60 - widest_grade) (2 ^ 60) (2 ^ 60 - 2 ^ 28)
+    (2 ^ 60) (2 ^ 39 - 1) (2 ^ 39) share under over near less (omega arith) (omega arith)
+    (omega arith) (omega arith) (omega arith) in
     omega (arith, x, most)
 
 one_less : (k n u : ℕ) → suc k * n < u * 10 ^ 10 + n → k * n < 10 ^ 10 * u
 one_less k n u h = let e : suc k * n ≡ k * n + n = omega arith in omega (arith, h, e)
 
 near_lower : (e : Enclosure) (v : ℕ) → HasGrade e max_side_grade → Encloses e v
-    → v * (2 ^ 60 - 2 ^ 17) ≤ lower_of e * 2 ^ 60
+    → v * (2 ^ 60 - widest_grade) ≤ lower_of e * 2 ^ 60
 near_lower e v has is =
-    near_width (lower_of e) v (2 ^ 17)
-    (near_more (lower_of e) v max_side_grade (2 ^ 17) (omega arith)
+    near_width (lower_of e) v widest_grade
+    (near_more (lower_of e) v max_side_grade widest_grade (omega arith)
     (near_between (lower_of e) (lower_of e) v (upper_of e) max_side_grade (le_refl _) is.upper
     has.near))
 
 near_upper : (e : Enclosure) (v : ℕ) → HasGrade e max_side_grade → Encloses e v
-    → upper_of e * (2 ^ 60 - 2 ^ 17) ≤ v * 2 ^ 60
+    → upper_of e * (2 ^ 60 - widest_grade) ≤ v * 2 ^ 60
 near_upper e v has is =
-    near_width v (upper_of e) (2 ^ 17)
-    (near_more v (upper_of e) max_side_grade (2 ^ 17) (omega arith)
+    near_width v (upper_of e) widest_grade
+    (near_more v (upper_of e) max_side_grade widest_grade (omega arith)
     (near_between (lower_of e) v (upper_of e) (upper_of e) max_side_grade is.lower (le_refl _)
     has.near))
 
-wide : (low v w high : ℕ) → IsNear low v max_side_grade → IsNear v w (2 ^ 25)
+wide : (low v w high : ℕ) → IsNear low v max_side_grade → IsNear v w (2 ^ 28)
     → IsNear w high max_side_grade → high * 2 ^ 31 ≤ low * (2 ^ 31 + 1)
 wide low v w high a b c =
-    let x = near_width low high (max_side_grade + 2 ^ 25 + max_side_grade)
-    (near_trans low w high (max_side_grade + 2 ^ 25) max_side_grade
-    (near_trans low v w max_side_grade (2 ^ 25) a b) c) in
+    let x = near_width low high (max_side_grade + 2 ^ 28 + max_side_grade)
+    (near_trans low w high (max_side_grade + 2 ^ 28) max_side_grade
+    (near_trans low v w max_side_grade (2 ^ 28) a b) c) in
     omega (arith, x)
 
 exact_at : (e : Enclosure) (v : ℕ) → Encloses e v → IsExact e
@@ -173,7 +174,7 @@ module _ (own top whole : Enclosure) (small : Type 0) (v w t : ℕ)
           (omega (arith, c.0), omega (arith, c.1))
 
       above : (q : ℕ) → q * lower_of whole < upper_of top * 10 ^ 10 + lower_of whole
-          → (low : ℕ) → low ≤ 10 ^ 10 → 10 ^ 10 * v * (2 ^ 42 - 1) < (low + 1) * t * 2 ^ 42
+          → (low : ℕ) → low ≤ 10 ^ 10 → 10 ^ 10 * v * (2 ^ 39 - 1) < (low + 1) * t * 2 ^ 39
           → q ≤ low + 5
       above zero h low most less = omega arith
       above (suc k) h low most less =
@@ -181,7 +182,7 @@ module _ (own top whole : Enclosure) (small : Type 0) (v w t : ℕ)
           let x = few_units k (lower_of whole) (10 ^ 10) (upper_of top) t w v low share
           (near_lower whole t ends.of_whole.grade.0 ends.of_whole.encloses)
           (near_upper top w ends.of_best.grade.0 ends.of_best.encloses)
-          (near_width v w (2 ^ 25) ends.near) less most in
+          (near_width v w (2 ^ 28) ends.near) less most in
           omega (arith, x)
 
 pub some_near : (v w g : ℕ) → IsNear v w g → 1 ≤ w → 1 ≤ v
@@ -200,7 +201,7 @@ module _ (own top : Held) (whole : Enclosure) (small : Type 0) (v w t : ℕ)
   pub own_there : own ≡ Absent → ⊥
   own_there is =
       let z : v ≡ 0 = subst (λ (x : Held). HeldEncloses x v) is ends.of_state.encloses in
-      let s = some_near v w (2 ^ 25) ends.near ends.some in
+      let s = some_near v w (2 ^ 28) ends.near ends.some in
       omega (arith, z, s)
 
   pub top_there : top ≡ Absent → ⊥

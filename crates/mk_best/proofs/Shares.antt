@@ -1,9 +1,10 @@
 -- Beliefs in the states that are left, and the share of a part in a whole.
 use Rattle.std.proofs.Common.{◌≡◌, ℕ, ◌+◌, ◌^◌, ◌≤◌, ◌&&◌, List, [], ◌∷◌, length, slice_index, Some}
-use Rattle.std.proofs.Common.{not, refl, sym, ap, subst, ◌∙◌, arith}
+use Rattle.std.proofs.Common.{◌-◌, ◌*◌, ◌<◌, not, refl, sym, ap, subst, ◌∙◌, arith, le_refl}
+use Rattle.std.proofs.Math.Nat.{mul-le-mul_left, one-le-mul}
 use Rattle.std.proofs.lemmas.List.Elements.{All-from_recursion}
 use Rattle.mk_net.specs.declared.words.Pair.{Pair}
-use Rattle.mk_net.specs.Bounds.{max_market_trades}
+use Rattle.mk_net.specs.Bounds.{max_variables, max_market_trades, max_values, sharpness, grade_room}
 use Rattle.mk_net.specs.Asked.{Asked}
 use Rattle.mk_net.specs.Network.{Variable, IsNetwork, sizes}
 use Rattle.mk_states.specs.Events.{has, holds, always}
@@ -12,13 +13,13 @@ use Rattle.mk_exact.specs.Prices.{CoversPrice}
 use Rattle.mk_states.specs.OfNetwork.{IsPairOf}
 use Rattle.mk_exact.specs.Proper.{IsProper}
 use Rattle.mk_exact.specs.Weight.{IsSmall, total}
+use Rattle.mk_exact.proofs.Sharp.{sharp_enough}
 use Rattle.mk_tree.specs.Given.{GivenTree, home}
 use Rattle.mk_tree.proofs.Held.{home_is_held}
 use Rattle.mk_states.proofs.Shares.{few_values_at}
 use Rattle.mk_engine.specs.Cases.{exact_others, CanAskOthers, IsOthersBelief}
-use Rattle.mk_scaled.specs.Near.{near_more}
 use Rattle.mk_enclose.specs.declared.enclosure.Enclosure.{Enclosure}
-use Rattle.mk_enclose.specs.Enclosure.{lower_of, upper_of, HasGrade, IsExact}
+use Rattle.mk_enclose.specs.Enclosure.{IsExact}
 use Rattle.mk_semiring.specs.declared.held.Held.{Held}
 use Rattle.mk_semiring.specs.declared.held.Held.TheVariants.{Absent, Present}
 use Rattle.mk_semiring.specs.Held.{HeldEncloses, HasHeldGrade, IsHeldExact, held_grade_more}
@@ -26,10 +27,11 @@ use Rattle.mk_engine.specs.Meaning.{Meaning, max_factors, max_grade, ArePairsOf}
 use Rattle.mk_engine.specs.Beliefs.{IsBelief}
 use Rattle.mk_beliefs.specs.Meanings.{weights_of}
 use Rattle.mk_beliefs.proofs.Weighed.{belief_is_total, others_are_total, weights_are_small}
-use Rattle.mk_beliefs.proofs.Grown.{factors_are_few}
+use Rattle.mk_beliefs.proofs.Grown.{factors_are_few, factors_by_trades}
 use Rattle.mk_answers.specs.inner.Found.{IsBeliefIn, max_side_grade}
+use Rattle.mk_answers.proofs.Room.{within_room}
 use Rattle.mk_answers.proofs.Weaker.{covers_when}
-use Rattle.mk_answers.proofs.Parts.{ArePartsOf, parts_cover}
+use Rattle.mk_answers.proofs.Parts.{ArePartsOf, parts_cover, room_is_wide}
 use Rattle.mk_answers.proofs.Presence.{some_weight, weighed_comes, absent_never}
 use Rattle.mk_best.specs.declared.found.Chance.{Chance}
 use Rattle.mk_best.specs.declared.found.Chance.TheVariants.{Price, Impossible}
@@ -60,48 +62,93 @@ left_in network tree H legal few event belief none b = record {
   exact = λ s. b.exact (weights_are_small network tree H s);
 }
 
-grade_more : (e : Enclosure) (g h : ℕ) → g ≤ h → HasGrade e g → HasGrade e h
-grade_more e g h l has = record { near = near_more (lower_of e) (upper_of e) g h l has.near }
+few_steps : (factors count room : ℕ) → factors ≤ max_variables + count
+    → max_variables + count + max_grade + max_values + 1 ≤ room → factors + max_grade ≤ room
+few_steps factors count room few fits = omega (arith, few, fits)
 
-pub covers_nothing : (small : Type 0) (v w : ℕ) → v ≡ 0 → 1 ≤ w
-    → CoversPrice small (record { num = v; den = w }) 0 0
-covers_nothing small v w none some = record {
-  below = omega (arith, none);
-  above = omega (arith, none);
-  at_most_one = omega arith;
-  low_near = omega (arith, none, some);
-  high_near = omega (arith, none, some);
-  never = λ e. refl;
-  sure = λ e. absurd (omega (arith, none, some, e));
-  floor = λ s. omega (arith, none, some);
-  ceiling = λ s. omega (arith, none, some);
-}
+-- and has a grade for which so many trades leave room
+pub room_in : (network : List Variable) (tree : GivenTree) (H : List Entry) → IsNetwork network
+    → length (trades H) ≤ max_market_trades → (event : List Pair) (belief : Held)
+    → IsBelief HeldEncloses HasHeldGrade IsHeldExact ◌+◌ (weights_of network tree H) event belief
+    → HasHeldGrade belief (grade_room (length (trades H)))
+room_in network tree H legal few event belief b =
+    let count = length (trades H) in
+    held_grade_more belief (length (weights_of network tree H).factors + max_grade)
+    (grade_room count) b.grade
+    (few_steps (length (weights_of network tree H).factors) count (grade_room count)
+    (factors_by_trades network tree H 0 legal).0 (within_room count count (le_refl count) few))
 
-pub covers_all : (small : Type 0) (v w : ℕ) → v ≡ w → 1 ≤ w
-    → CoversPrice small (record { num = v; den = w }) (10 ^ 10) (10 ^ 10)
-covers_all small v w same some = record {
-  below = omega (arith, same);
-  above = omega (arith, same);
-  at_most_one = omega arith;
-  low_near = omega (arith, same, some);
-  high_near = omega (arith, same, some);
-  never = λ e. absurd (omega (arith, same, some, e));
-  sure = λ e. refl;
-  floor = λ s. omega (arith, same, some);
-  ceiling = λ s. omega (arith, same, some);
-}
+-- nothing of something, and all of it
+nothing_covered : (small : Type 0) (near w : ℕ) → 2 ≤ near → 1 ≤ w
+    → CoversPrice small near (record { num = 0; den = w }) 0 0
+nothing_covered small near w wide some =
+    let whole : 1 ≤ w * near = one-le-mul some (omega arith) in
+    let less : 1 ≤ w * (near - 1) = one-le-mul some (omega arith) in
+    record {
+      below = omega arith;
+      above = omega arith;
+      at_most_one = omega arith;
+      low_near = omega (arith, whole);
+      high_near = omega (arith, less);
+      never = λ e. refl;
+      sure = λ e. absurd (omega arith);
+      floor = λ s. omega arith;
+      ceiling = λ s. omega arith;
+    }
+
+all_covered : (small : Type 0) (near w : ℕ) → 2 ≤ near → 1 ≤ w
+    → CoversPrice small near (record { num = w; den = w }) (10 ^ 10) (10 ^ 10)
+all_covered small near w wide some =
+    let whole : 1 ≤ w * near = one-le-mul some (omega arith) in
+    let less : 1 ≤ w * (near - 1) = one-le-mul some (omega arith) in
+    let most : w * (near - 1) ≤ w * near = mul-le-mul_left w (omega arith) in
+    record {
+      below = omega arith;
+      above = omega arith;
+      at_most_one = omega arith;
+      low_near = omega (arith, whole, most);
+      high_near = omega (arith, less, most);
+      never = λ e. absurd (omega arith);
+      sure = λ e. refl;
+      floor = λ s. omega arith;
+      ceiling = λ s. omega arith;
+    }
+
+pub covers_nothing : (small : Type 0) (near v w : ℕ) → 2 ≤ near → v ≡ 0 → 1 ≤ w
+    → CoversPrice small near (record { num = v; den = w }) 0 0
+covers_nothing small near v w wide none some =
+    subst (λ (n : ℕ). CoversPrice small near (record { num = n; den = w }) 0 0) (sym none)
+    (nothing_covered small near w wide some)
+
+pub covers_all : (small : Type 0) (near v w : ℕ) → 2 ≤ near → v ≡ w → 1 ≤ w
+    → CoversPrice small near (record { num = v; den = w }) (10 ^ 10) (10 ^ 10)
+covers_all small near v w wide same some =
+    subst (λ (n : ℕ). CoversPrice small near (record { num = n; den = w }) (10 ^ 10) (10 ^ 10))
+    (sym same) (all_covered small near w wide some)
 
 pub covers_part : (network : List Variable) (H : List Entry) (part whole : Enclosure)
     (v w low high : ℕ) → ArePartAndWhole network H (Present part) whole v w
     → ArePartsOf part whole low high
-    → CoversPrice (IsSmall network H) (record { num = v; den = w }) low high
+    → CoversPrice (IsSmall network H) (sharpness (length (trades H)))
+    (record { num = v; den = w }) low high
 covers_part network H part whole v w low high are parts =
+    let count = length (trades H) in
     covers_when (IsSmall network H) (IsExact part × IsExact whole)
-    (λ s. (are.of_part.exact s, are.of_whole.exact s)) (record { num = v; den = w }) low high
-    (parts_cover part whole v w (2 ^ 17) low high are.of_part.encloses are.of_whole.encloses
-    (some_weight whole w are.of_whole.encloses) (omega (arith, are.less)) are.less (omega arith)
-    (grade_more part max_side_grade (2 ^ 17) (omega arith) are.of_part.grade.0)
-    (grade_more whole max_side_grade (2 ^ 17) (omega arith) are.of_whole.grade.0) parts)
+    (λ s. (are.of_part.exact s, are.of_whole.exact s)) (sharpness count)
+    (record { num = v; den = w }) low high
+    (parts_cover (sharpness count) (grade_room count) (room_is_wide count) (sharp_enough count)
+    part whole v w (grade_room count) low high are.of_part.encloses are.of_whole.encloses
+    (some_weight whole w are.of_whole.encloses) (omega (arith, are.less)) are.less
+    (le_refl (grade_room count)) are.part_room.0 are.whole_room.0 parts)
+
+-- what covers a share where pairs are known covers it as sharply
+pub covers_learned : (small : Type 0) (H : List Entry) (pairs : List Pair) (v w low high : ℕ)
+    → CoversPrice small (sharpness (length (trades (learned H pairs))))
+    (record { num = v; den = w }) low high
+    → CoversPrice small (sharpness (length (trades H))) (record { num = v; den = w }) low high
+covers_learned small H pairs v w low high covers =
+    subst (λ (ts : List UserTrade). CoversPrice small (sharpness (length ts))
+    (record { num = v; den = w }) low high) (trades_learned H pairs) covers
 
 -- what is found of the states that are left with what is given is found of the chance
 pub chance_is : (network : List Variable) (H : List Entry) (want given : List Pair) (found : Chance)
@@ -113,12 +160,15 @@ chance_is network H want given (Price low high) legal proper left =
     let den : total network (learned H given) always ≡ total network H (holds given) = all_learned H
     given network in (
       weighed_comes network H (holds given) (subst (λ n. 1 ≤ n) den left.0),
-      subst (λ (n : ℕ). CoversPrice (IsSmall network H)
+      subst (λ (n : ℕ). CoversPrice (IsSmall network H) (sharpness (length (trades H)))
           (record { num = n; den = total network H (holds given) }) low high) num
-          (subst (λ (n : ℕ). CoversPrice (IsSmall network H)
+          (subst (λ (n : ℕ). CoversPrice (IsSmall network H) (sharpness (length (trades H)))
           (record { num = total network (learned H given) (holds want); den = n }) low high) den
           (covers_when (IsSmall network H) (IsSmall network (learned H given))
-          (small_learned H given network) _ low high left.1)),
+          (small_learned H given network) (sharpness (length (trades H))) _ low high
+          (covers_learned (IsSmall network (learned H given)) H given
+          (total network (learned H given) (holds want)) (total network (learned H given) always)
+          low high left.1))),
     )
 chance_is network H want given Impossible legal proper left =
     absent_never network H (holds given) legal proper (sym (all_learned H given network) ∙ left)
@@ -146,6 +196,30 @@ in_present belief e small n is b = subst (λ (x : Held). IsBeliefIn x small n) i
 pub in_absent : (belief : Held) (small : Type 0) (n : ℕ) → belief ≡ Absent
     → IsBeliefIn belief small n → n ≡ 0
 in_absent belief small n is b = (subst (λ (x : Held). HeldEncloses x n) is b.encloses)
+
+-- the beliefs before the wanted pairs are known, and after that
+pub part_and_whole : (network : List Variable) (tree : GivenTree) (H : List Entry)
+    (want : List Pair) → IsNetwork network → length (trades H) ≤ max_market_trades
+    → (before after : List Pair) (all part : Held) (whole : Enclosure) → before ≡ [] → after ≡ []
+    → all ≡ Present whole
+    → IsBelief HeldEncloses HasHeldGrade IsHeldExact ◌+◌ (weights_of network tree H) before all
+    → IsBelief HeldEncloses HasHeldGrade IsHeldExact ◌+◌ (weights_of network tree (learned H want))
+    after part
+    → total network H (holds want) < total network H always
+    → ArePartAndWhole network H part whole (total network H (holds want)) (total network H always)
+part_and_whole network tree H want legal few before after all part whole none also is b c less =
+    record {
+      of_part = part_in network H want part
+          (left_in network tree (learned H want) legal (few_learned H want few) after part also c);
+      of_whole = in_present all whole (IsSmall network H) (total network H always) is
+          (left_in network tree H legal few before all none b);
+      part_room = subst (λ (ts : List UserTrade). HasHeldGrade part (grade_room (length ts)))
+          (trades_learned H want)
+          (room_in network tree (learned H want) legal (few_learned H want few) after part c);
+      whole_room = subst (λ (x : Held). HasHeldGrade x (grade_room (length (trades H)))) is
+          (room_in network tree H legal few before all b);
+      less = less;
+    }
 
 -- ---- whether a pair can fail
 

@@ -1,9 +1,11 @@
 -- Best states after a history.
-use Rattle.std.specs.Prelude.{◌≡◌, ℕ, ◌+◌, ◌*◌, ◌^◌, ◌<◌, ◌≤◌, List, Bool, true, false, max}
+use Rattle.std.specs.Prelude.{◌≡◌, ℕ, ◌+◌, ◌*◌, ◌^◌, ◌<◌, ◌≤◌, List, length, Bool, true, false}
+use Rattle.std.specs.Prelude.{max}
 use Rattle.mk_net.specs.declared.words.Pair.{Pair}
+use Rattle.mk_net.specs.Bounds.{sharpness}
 use Rattle.mk_net.specs.Network.{Variable, sizes}
 use Rattle.mk_states.specs.Events.{holds}
-use Rattle.mk_exact.specs.History.{Entry}
+use Rattle.mk_exact.specs.History.{Entry, trades}
 use Rattle.mk_states.specs.InitialWeight.{can_come, value_at}
 use Rattle.mk_exact.specs.Prices.{CoversPrice}
 use Rattle.mk_states.specs.States.{plus_over, IsState}
@@ -49,7 +51,7 @@ pub record IsBest (network : List Variable) (H : List Entry) (given : List Pair)
   pub its_weight : Encloses value (weight network H s)
   pub weight_of_best : Encloses value (best_weight network H given)
   pub width : upper_of value * 2 ^ 31 ≤ lower_of value * (2 ^ 31 + 1)
-  pub covers : CoversPrice (IsSmall network H)
+  pub covers : CoversPrice (IsSmall network H) (sharpness (length (trades H)))
       (record { num = weight network H s; den = total network H (holds given) }) low high
   pub at_most : 10 ^ 10 * best_weight network H given ≤ most * total network H (holds given)
   pub narrow : most ≤ low + 5

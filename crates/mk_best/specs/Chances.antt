@@ -1,10 +1,11 @@
 -- Chances after a history.
-use Rattle.std.specs.Prelude.{◌≡◌, List, true, false, ◌&&◌}
+use Rattle.std.specs.Prelude.{◌≡◌, List, length, true, false, ◌&&◌}
 use Rattle.mk_net.specs.declared.words.Pair.{Pair}
+use Rattle.mk_net.specs.Bounds.{sharpness}
 use Rattle.mk_net.specs.Network.{Variable}
 use Rattle.mk_states.specs.Events.{holds}
 use Rattle.mk_exact.specs.Factors.{Fraction}
-use Rattle.mk_exact.specs.History.{Entry}
+use Rattle.mk_exact.specs.History.{Entry, trades}
 use Rattle.mk_exact.specs.Prices.{CoversPrice, price_where}
 use Rattle.mk_exact.specs.Weight.{IsSmall, cannot_come}
 pub use Rattle.mk_replay.specs.Placed.{IsPlaced}
@@ -15,9 +16,10 @@ use Rattle.mk_best.specs.declared.found.Chance.TheVariants.{Price, Impossible}
 abbrev pub chance_of : List Variable → List Entry → List Pair → List Pair → Fraction
 chance_of network H want given = price_where network H given (λ s. holds given s && holds want s)
 
--- an interval that covers the chance, or that no possible state meets the given pairs
+-- an interval that covers the chance, as sharply as so many trades allow, or that no possible state
+-- meets the given pairs
 abbrev pub IsChance : List Variable → List Entry → List Pair → List Pair → Chance → Type 0
 IsChance network H want given (Price low high) =
     (cannot_come network H (holds given) ≡ false) × CoversPrice (IsSmall network H)
-    (chance_of network H want given) low high
+    (sharpness (length (trades H))) (chance_of network H want given) low high
 IsChance network H want given Impossible = cannot_come network H (holds given) ≡ true

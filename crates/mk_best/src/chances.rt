@@ -1,6 +1,6 @@
 //! Chances.
 ghost use Rattle.std.specs.Prelude.{◌≡◌, ℕ, ◌^◌, ◌≤◌, List, [], length, IfOk};
-ghost use Rattle.mk_net.specs.Bounds.{max_market_trades};
+ghost use Rattle.mk_net.specs.Bounds.{max_market_trades, sharpness};
 ghost use Rattle.mk_net.specs.Network.{Variable};
 ghost use Rattle.mk_exact.specs.History.{Entry as Change, trades};
 ghost use Rattle.mk_exact.specs.Prices.{CoversPrice};
@@ -106,7 +106,8 @@ fn share_of(part: &Held, whole: &Enclosure) -> (u64, u64)
     requires { HasPartAndWhole part.now whole.now }
     ensures { (network : List Variable) (H : List Change) (v w : ℕ)
         → ArePartAndWhole network H part.now whole.now v w
-        → CoversPrice (IsSmall network H) (record { num = v; den = w }) result.0 result.1 }
+        → CoversPrice (IsSmall network H) (sharpness (length (trades H)))
+        (record { num = v; den = w }) result.0 result.1 }
 {
     match part {
         Held::Absent => (0, 0),

@@ -13,7 +13,7 @@ use Rattle.mk_exact.specs.Cash.{AreNearCash, IsCashBetween, CoversCash}
 use Rattle.mk_exact.proofs.ExistNumbers.{greatest_power, exponent_at_most}
 use Rattle.mk_cash.specs.inner.Quotient.{IsLessNear}
 use Rattle.mk_cash.proofs.Nearness.{IsBetween, IsWide, near_above, near_below, exactly, low_near}
-use Rattle.mk_cash.proofs.Nearness.{high_near, wide_power, wide_graded}
+use Rattle.mk_cash.proofs.Nearness.{high_near, wide_power}
 
 -- ---- the powers of both sides
 
@@ -235,7 +235,8 @@ module _ (q : Fraction) (b g p s lo hi grade l h : ℕ) (is : IsRaised q b g p s
 -- ---- the interval that is printed
 
 module _ (q : Fraction) (b g p s lo hi grade l h : ℕ) (is : IsRaised q b g p s lo hi grade)
-    (bits : ArePowerBits lo hi b l h) (some : 1 ≤ lo) (few : b ≤ 1000000) (graded : grade ≤ 2 ^ 17)
+    (bits : ArePowerBits lo hi b l h) (some : 1 ≤ lo) (few : b ≤ 1000000) (graded : grade < 2 ^ 59)
+    (parts : ℕ) (wide_enough : IsWide parts (grade + 2))
   where
     near_by : (near steps low high : ℕ) → IsBetween g lo hi steps → IsWide near (steps + 2)
         → l + p ≤ low + s → high + s ≡ h + p → AreNearCash near q b low high
@@ -280,7 +281,7 @@ module _ (q : Fraction) (b g p s lo hi grade l h : ℕ) (is : IsRaised q b g p s
         )
 
     pub covers_cash : (small idle : Type 0) (low high : ℕ) → (small → lo ≡ hi) → (idle → lo ≤ 1)
-        → low ≡ l + p - s → high ≡ h + p - s → CoversCash small idle q b low high
+        → low ≡ l + p - s → high ≡ h + p - s → CoversCash small idle parts q b low high
     covers_cash small idle low high exact one low_is high_is =
         let between = cash_between q b g p s lo hi grade l h is bits some low high low_is high_is in
         let above = between.above in
@@ -291,8 +292,7 @@ module _ (q : Fraction) (b g p s lo hi grade l h : ℕ) (is : IsRaised q b g p s
           is_cash = between.is_cash;
           above = above;
           below = below;
-          near = near_by (2 ^ 42) grade low high is.between
-              (wide_graded (grade + 2) (omega arith)) (omega arith) (omega arith);
+          near = near_by parts grade low high is.between wide_enough (omega arith) (omega arith);
           nearer = λ e. near_by (2 ^ 59) 0 low high (exactly g lo hi grade is.between (exact e))
               (wide_power 2 (omega arith)) (omega arith) (omega arith);
           exact = λ e. let none = none_at_one (one e) in let a = none.0 in let c = none.1

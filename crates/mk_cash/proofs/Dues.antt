@@ -79,8 +79,8 @@ module _ (units : ℕ) (d : DueOf) (some : 1 ≤ units) (fit : units < number_li
 module _ (b : ℕ) (d : DueOf) (few : b ≤ max_points_per_bit) (is : IsDue d) where
   exponent_small : 63 * d.trades * b < 2 ^ 50
   exponent_small =
-      let trades : 63 * d.trades ≤ 63 * 65536 = let most = is.few_trades in omega arith in
-      let product : 63 * d.trades * b ≤ 63 * 65536 * 1000000 = mul-le-mul trades few in
+      let trades : 63 * d.trades ≤ 63 * 1000000 = let most = is.few_trades in omega arith in
+      let product : 63 * d.trades * b ≤ 63 * 1000000 * 1000000 = mul-le-mul trades few in
       omega arith
 
   pub high_power_in_range : IsInRange (d.high ^ b)

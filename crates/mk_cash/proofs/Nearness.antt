@@ -7,6 +7,8 @@ use Rattle.std.proofs.Math.Nat.{le_of_mul-le-mul_right, lt_of_mul-lt-mul_right}
 use Rattle.std.proofs.lemmas.Nat.{pow-add, mul-pow}
 use Rattle.mk_scaled.specs.Near.{IsNear, near-mul, near_trans, near_same, near_between, near_width}
 use Rattle.mk_scaled.specs.Near.{width_law}
+use Rattle.mk_net.specs.Bounds.{max_market_trades, sharpness, grade_room}
+use Rattle.mk_exact.proofs.Sharp.{at_room, by_trades}
 use Rattle.mk_cash.specs.inner.Quotient.{IsLessNear}
 
 -- ---- powers of what is near
@@ -154,6 +156,26 @@ wide_exact steps h = wide_of (2 ^ 58) steps 4 (omega arith) (omega arith) refl h
 
 pub wide_graded : (steps : ℕ) → steps ≤ 2 ^ 18 → IsWide (2 ^ 42) steps
 wide_graded steps h = wide_of (2 ^ 42) steps (2 ^ 18) (omega arith) (omega arith) refl h
+
+pub wide_large : (steps : ℕ) → steps ≤ 2 ^ 21 → IsWide (2 ^ 39) steps
+wide_large steps h = wide_of (2 ^ 39) steps (2 ^ 21) (omega arith) (omega arith) refl h
+
+-- an end of a gain and two steps for each factor of its power
+pub wide_room : (most_trades grade : ℕ) → grade ≤ grade_room most_trades
+    → IsWide (sharpness most_trades) (grade + 2)
+wide_room most_trades grade = at_room (λ (near room : ℕ). grade ≤ room → IsWide near (grade + 2))
+    (λ small. wide_graded (grade + 2) (omega arith)) (λ small. wide_large (grade + 2) (omega arith))
+    most_trades
+
+pub room_small : (most_trades : ℕ) → grade_room most_trades ≤ 2 ^ 20
+room_small = at_room (λ (near room : ℕ). room ≤ 2 ^ 20) (omega arith) (omega arith)
+
+-- two steps for each trade
+pub wide_trades : (most_trades count : ℕ) → count ≤ most_trades → count ≤ max_market_trades
+    → IsWide (sharpness most_trades) (2 * count + 2)
+wide_trades most_trades count few many = by_trades (λ (near : ℕ). IsWide near (2 * count + 2))
+    most_trades (λ usual. wide_graded (2 * count + 2) (omega arith))
+    (λ large. wide_large (2 * count + 2) (omega arith))
 
 -- ---- a number between two ends
 

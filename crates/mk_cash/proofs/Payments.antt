@@ -9,7 +9,7 @@ use Rattle.std.proofs.lemmas.List.Sums.{sum_by-cons}
 use Rattle.std.proofs.lemmas.List.Elements.{recursion_from_All}
 use Rattle.mk_net.specs.Asked.{TradeRatio}
 use Rattle.mk_net.specs.Bounds.{max_market_trades, max_transfers, max_transfer_bits, number_limit}
-use Rattle.mk_net.specs.Bounds.{million}
+use Rattle.mk_net.specs.Bounds.{million, sharpness}
 use Rattle.mk_net.specs.Network.{Variable, sizes, IsNetwork}
 use Rattle.mk_scaled.specs.ByRule.{rounded_down, rounded_up, power_by, whole_log}
 use Rattle.mk_states.specs.States.{product_by, IsState}
@@ -31,6 +31,7 @@ use Rattle.mk_exact.specs.ByRule.{gain_by, points_by, payment_by_rule}
 use Rattle.mk_exact.proofs.Positive.{ratio_pos}
 use Rattle.mk_cash.proofs.Covering.{ArePowerBits, IsRaised, raised_factor, cash_between}
 use Rattle.mk_cash.proofs.Covering.{covers_cash}
+use Rattle.mk_cash.proofs.Nearness.{wide_trades}
 use Rattle.mk_cash.proofs.ByRule.{AreGains, gains_by_rule, bits_by_rule, down_exact, up_exact}
 use Rattle.mk_cash.proofs.ByRule.{times_exact, times_none, IsBoundedBy, down_bounded, up_bounded}
 use Rattle.mk_cash.proofs.ByRule.{bits_most, times_most}
@@ -174,18 +175,19 @@ module _ (network : List Variable) (H : List Entry) (b : ℕ) (s : List ℕ) (u 
       (gain_by rounded_down H u s) (gain_by rounded_up H u s) (2 * trade_count H u) low_log high_log
       factor_raised logs gains.positive _ _ (owed_same low_log) (owed_same high_log)
 
-  payment_covers : IsWithinBounds H → b ≤ million
-      → CoversCash (IsSmall network H) (HoldsNoTrade H u) (factor H u s) b
+  payment_covers : IsWithinBounds H → (most_trades : ℕ) → length (trades H) ≤ most_trades → b ≤ million
+      → CoversCash (IsSmall network H) (HoldsNoTrade H u) (sharpness most_trades) (factor H u s) b
       (payment_by_rule H b s u).0 (payment_by_rule H b s u).1
-  payment_covers bounds few =
+  payment_covers bounds most_trades fit few =
       let own : trade_count H u ≤ length (trades H) = kept_length (λ (t : UserTrade). eqb t.user u)
       (trades H) in
       let most = bounds.few_trades in
-      let steps : 2 * trade_count H u ≤ 2 ^ 17 = omega arith in
+      let steps : 2 * trade_count H u < 2 ^ 59 = omega arith in
       covers_cash (factor H u s) b (gain H u s) (b * deposited H u)
       (b * (40 * trade_count H u + withdrawn H u))
       (gain_by rounded_down H u s) (gain_by rounded_up H u s) (2 * trade_count H u) low_log high_log
-      factor_raised logs gains.positive few steps (IsSmall network H) (HoldsNoTrade H u) _ _
+      factor_raised logs gains.positive few steps (sharpness most_trades)
+      (wide_trades most_trades (trade_count H u) (le_trans own fit) (le_trans own most)) (IsSmall network H) (HoldsNoTrade H u) _ _
       ends_same (times_none rounded_down (trades_of H u) s)
       (owed_same low_log) (owed_same high_log)
 
@@ -196,14 +198,15 @@ pub payment_by_rule_is_between : (network : List Variable) (H : List Entry) (b :
 payment_by_rule_is_between network H b s u proper sound some one = payment_is_between network H b s
     u proper sound some one
 
-pub payment_by_rule_covers : (network : List Variable) (H : List Entry) (b : ℕ) (s : List ℕ) (u : ℕ)
-    → IsNetwork network → IsProper network H → IsSound network H → IsWithinBounds H → 1 ≤ b
-    → b ≤ million
+pub payment_by_rule_covers : (network : List Variable) (H : List Entry) (most_trades b : ℕ)
+    (s : List ℕ) (u : ℕ)
+    → IsNetwork network → IsProper network H → IsSound network H → IsWithinBounds H
+    → length (trades H) ≤ most_trades → 1 ≤ b → b ≤ million
     → possible_states network H always ≡ s ∷ []
-    → CoversCash (IsSmall network H) (HoldsNoTrade H u) (factor H u s) b (payment_by_rule H b s u).0
-    (payment_by_rule H b s u).1
-payment_by_rule_covers network H b s u net proper sound bounds some few one =
-    payment_covers network H b s u proper sound some one bounds few
+    → CoversCash (IsSmall network H) (HoldsNoTrade H u) (sharpness most_trades) (factor H u s) b
+    (payment_by_rule H b s u).0 (payment_by_rule H b s u).1
+payment_by_rule_covers network H most_trades b s u net proper sound bounds fit some few one =
+    payment_covers network H b s u proper sound some one bounds most_trades fit few
 
 -- ---- payments fit
 
@@ -247,10 +250,10 @@ bits_at_most u (e ∷ H) h = omega (
 pub points_within : (b c d points : ℕ) → b ≤ million → c ≤ max_market_trades
     → d ≤ 1000 * max_transfers → points ≤ (b + 1) * (63 * c) + b * d → points < number_limit
 points_within b c d points few trades moved most =
-    let trades_most : 63 * c ≤ 63 * 65536 = omega arith in
+    let trades_most : 63 * c ≤ 63 * 1000000 = omega arith in
     let bits_most : d ≤ 1000000000 = omega arith in
     let more : b + 1 ≤ 1000001 = omega arith in
-    let a : (b + 1) * (63 * c) ≤ 1000001 * (63 * 65536) = mul-le-mul more trades_most in
+    let a : (b + 1) * (63 * c) ≤ 1000001 * (63 * 1000000) = mul-le-mul more trades_most in
     let e : b * d ≤ 1000000 * 1000000000 = mul-le-mul few bits_most in
     omega arith
 

@@ -1,6 +1,6 @@
 //! The points that a factor is worth.
-ghost use Rattle.std.specs.Prelude.{◌≡◌, ◌+◌, ◌-◌, ◌*◌, ◌^◌, ◌<◌, ◌≤◌};
-ghost use Rattle.mk_net.specs.Bounds.{max_points_per_bit, number_limit};
+ghost use Rattle.std.specs.Prelude.{◌≡◌, ℕ, ◌+◌, ◌-◌, ◌*◌, ◌^◌, ◌<◌, ◌≤◌};
+ghost use Rattle.mk_net.specs.Bounds.{max_points_per_bit, number_limit, sharpness, grade_room};
 ghost use Rattle.mk_exact.specs.Factors.{Fraction, IsAtLeastOne};
 ghost use Rattle.mk_exact.specs.Cash.{CoversCash};
 ghost use Rattle.mk_scaled.specs.ByRule.{rounded_down, rounded_up, power_by, whole_log};
@@ -14,18 +14,19 @@ ghost use Rattle.mk_cash.specs.inner.Quotient.{IsLessNear};
 use mk_enclose::{Enclosure, Factor};
 
 /// Bounds on the points that a factor of at least one is worth: `points_per_bit` times the
-/// logarithm of the factor to base 2, rounded down. They are nearer where the gain is exact, and
-/// both the points where it is one.
+/// logarithm of the factor to base 2, rounded down. They are as near as a market's printed cash is
+/// to be whose grades have room for the gain's, nearer where the gain is exact, and both the points
+/// where it is one.
 ///
 /// Nothing is said of a factor below one but that both numbers are small.
 pub fn cash(factor: &Factor, points_per_bit: u32) -> (u64, u64)
     requires some_points { 1 ≤ points_per_bit }
     requires few_points { points_per_bit ≤ max_points_per_bit }
     requires range { HasPowersInRange factor.now points_per_bit }
-    ensures covers { (q : Fraction) → StandsFor factor.now q.num q.den
-        → IsGradedWithin factor.now.gain (2 ^ 17) → IsAtLeastOne q
-        → CoversCash (IsExact factor.now.gain) (Encloses factor.now.gain 1) q points_per_bit
-        result.0 result.1 }
+    ensures covers { (q : Fraction) (most_trades : ℕ) → StandsFor factor.now q.num q.den
+        → IsGradedWithin factor.now.gain (grade_room most_trades) → IsAtLeastOne q
+        → CoversCash (IsExact factor.now.gain) (Encloses factor.now.gain 1) (sharpness most_trades)
+        q points_per_bit result.0 result.1 }
     ensures low_rule { result.0 ≡
         (whole_log (power_by rounded_down (lower_of factor.now.gain) points_per_bit)
         + points_per_bit * paid_in factor.now.net)

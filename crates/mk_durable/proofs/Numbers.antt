@@ -24,7 +24,7 @@ kinds (Settle payments ∷ H) = omega (arith, kinds H, count_first is_settlement
 kinds (Add addition ∷ H) = omega (arith, kinds H)
 
 pub few_changes : (market : Market) (H : List Entry) → IsSafe market H
-    → revision H ≤ 1131329 + length (additions H)
+    → revision H ≤ 2065793 + length (additions H)
 few_changes market H safe =
     omega (
       arith,

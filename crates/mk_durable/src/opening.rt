@@ -63,7 +63,7 @@ pub fn resume<P: Engine<SumProd>, A: Engine<MinProd>, K: Disk>(
         (K.file disk.new n) (K.may_leave disk.new n) it.store it.count) }
     ensures count { IfOk result (λ it. it.count ≡ revision (market.new.standing).history) }
     ensures few { IfOk result (λ it.
-        it.count ≤ 1131329 + length (additions (market.new.standing).history)) }
+        it.count ≤ 2065793 + length (additions (market.new.standing).history)) }
     ensures few_added { OnOk result (length (additions (market.new.standing).history) ≤ 255) }
     ensures ready { IfOk result (λ it. IsReady (K.is_open disk.new)
         (K.file disk.new (K.open_name disk.new)) it.store it.count) }

@@ -141,11 +141,11 @@ module _ (network : List Variable) (H : List Entry) (net : IsNetwork network) (p
     price_is : IsPortion (exact_price network H asked)
     price_is = record { divides = total_positive network H net proper (holds asked.condition) open_for.some_state; at_most_one = omega (arith, total_condition network H asked) }
 
-    pub price_exists_for : HasPrice network H asked
-    price_exists_for = at (price_is_covered (exact_price network H asked) price_is.divides price_is.at_most_one)
+    pub price_exists_for : (near : ℕ) → 2 ≤ near → HasPrice network H near asked
+    price_exists_for near wide = at (price_is_covered near (exact_price network H asked) wide price_is.divides price_is.at_most_one)
       where
-        at : (low : ℕ) × (high : ℕ) × CoversPrice ⊤ (exact_price network H asked) low high → HasPrice network H asked
-        at c = record { exact = price_is; low = c.0; high = c.1; covers = covers_in (IsSmall network H) (exact_price network H asked) (c.0) (c.1) (c.2) }
+        at : (low : ℕ) × (high : ℕ) × CoversPrice ⊤ near (exact_price network H asked) low high → HasPrice network H near asked
+        at c = record { exact = price_is; low = c.0; high = c.1; covers = covers_in (IsSmall network H) near (exact_price network H asked) (c.0) (c.1) (c.2) }
 
   module _ (asked : Asked) (moves : CanMove network H asked) where
     hit_price : IsPositivePrice (price_where network H asked.condition (with_target asked))
@@ -179,8 +179,11 @@ module _ (network : List Variable) (H : List Entry) (net : IsNetwork network) (p
         at : HasSides network H u asked → (limits : Option (ℕ × ℕ)) × AreRightLimits network H u asked limits
         at found = of found (limits_exist found.hit found.miss found.hit_open.price found.miss_open.price)
 
-pub price_exists : (network : List Variable) (H : List Entry) (asked : Asked) → IsNetwork network → IsProper network H → CanBeAsked network H asked → HasPrice network H asked
-price_exists network H asked net proper open_for = price_exists_for network H net proper asked open_for
+pub price_exists : (network : List Variable) (H : List Entry) (near : ℕ) (asked : Asked) → 2 ≤ near
+    → IsNetwork network → IsProper network H
+    → CanBeAsked network H asked → HasPrice network H near asked
+price_exists network H near asked wide net proper open_for =
+    price_exists_for network H net proper asked open_for near wide
 
 pub least_gain_exists : (network : List Variable) (H : List Entry) (u : ℕ) → IsNetwork network
     → IsProper network H → HasLeast network H u

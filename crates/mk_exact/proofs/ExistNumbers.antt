@@ -1,6 +1,6 @@
 -- Intervals of prices, cash and whole bits exist.
 use Rattle.std.proofs.Common.{◌≡◌, ℕ, zero, suc, ◌+◌, ◌-◌, ◌*◌, ◌/◌, ◌^◌, ◌<◌, ◌≤◌, ◌⊎◌, refl, sym}
-use Rattle.std.proofs.Common.{ap, ◌∙◌, inl, inr, arith, add-one, le_refl, le_trans, lt_of_lt_of_le}
+use Rattle.std.proofs.Common.{ap, ◌∙◌, subst, inl, inr, arith, add-one, le_refl, le_trans, lt_of_lt_of_le}
 use Rattle.std.specs.Bool.{⊤}
 use Rattle.std.proofs.Math.Nat.{div-mul-le_self, lt-div-mul-add, mul-le-mul, mul-le-mul_left}
 use Rattle.std.proofs.Math.Nat.{mul-le-mul_right, mul-lt-mul_of_pos_right, le-mul_of_pos_right}
@@ -9,12 +9,13 @@ use Rattle.std.proofs.Math.Nat.{pow-le-pow_left, pow-le-pow_right, one-le-pow}
 use Rattle.std.proofs.lemmas.Nat.{mul-pow, pow-add}
 use Rattle.std.proofs.Math.Pow.{pow-lt}
 use Rattle.std.proofs.lemmas.Bool.{cases_lt}
-use Rattle.mk_net.specs.Bounds.{million}
+use Rattle.mk_net.specs.Bounds.{million, sharpness}
 use Rattle.mk_exact.specs.Factors.{Fraction}
 use Rattle.mk_exact.specs.Prices.{CoversPrice}
 use Rattle.mk_exact.specs.Cash.{IsCash, AreNearCash, CoversCash}
 use Rattle.mk_exact.specs.Accepted.{Covers, IsMost}
 use Rattle.mk_exact.specs.Existing.{IsSafeFactor}
+use Rattle.mk_exact.proofs.Sharp.{sharp}
 
 -- ---- prices
 
@@ -41,8 +42,15 @@ rounded n d k p q = by_parts (n / d) ((n + d - 1) / d) (div-mul-le_self n d) (lt
       ceiling = omega arith;
     }
 
-pub price_is_covered : (price : Fraction) → 1 ≤ price.den → price.num ≤ price.den → (low : ℕ) × (high : ℕ) × CoversPrice ⊤ price low high
-price_is_covered price p q = (10 ^ 10 * price.num / price.den, (10 ^ 10 * price.num + price.den - 1) / price.den, covers (rounded (10 ^ 10 * price.num) price.den (10 ^ 10) p (mul-le-mul_left (10 ^ 10) q)))
+pub further : (t p n x : ℕ) → p ≤ n → 1 ≤ n → t < x → t * p < x * n
+further t p n x l q h =
+    let a : t * p ≤ t * n = mul-le-mul_left t l in
+    let c : t * n < x * n = mul-lt-mul_of_pos_right h q in
+    omega arith
+
+pub price_is_covered : (near : ℕ) (price : Fraction) → 2 ≤ near → 1 ≤ price.den → price.num ≤ price.den
+    → (low : ℕ) × (high : ℕ) × CoversPrice ⊤ near price low high
+price_is_covered near price wide p q = (10 ^ 10 * price.num / price.den, (10 ^ 10 * price.num + price.den - 1) / price.den, covers (rounded (10 ^ 10 * price.num) price.den (10 ^ 10) p (mul-le-mul_left (10 ^ 10) q)))
   where
     none_of : (high : ℕ) → price.num ≡ 0 → high * price.den < 10 ^ 10 * price.num + price.den → high ≡ 0
     none_of high e less = let l : high < 1 = fewer high 1 price.den (omega arith) in omega arith
@@ -53,13 +61,22 @@ price_is_covered price p q = (10 ^ 10 * price.num / price.den, (10 ^ 10 * price.
         let m : low < 10 ^ 10 + 1 = fewer low (10 ^ 10 + 1) price.den (omega arith) in
         omega arith
 
-    covers : {low high : ℕ} → AreRounded (10 ^ 10 * price.num) price.den (10 ^ 10) low high → CoversPrice ⊤ price low high
+    ceiling_near : (high : ℕ) → high * price.den < 10 ^ 10 * price.num + price.den
+        → high * price.den * (near - 1) < 10 ^ 10 * price.num * near + price.den * (near - 1)
+    ceiling_near high less =
+        let l : high * price.den * (near - 1) < (10 ^ 10 * price.num + price.den) * (near - 1)
+        = mul-lt-mul_of_pos_right less (omega arith) in
+        let m : 10 ^ 10 * price.num * (near - 1) ≤ 10 ^ 10 * price.num * near = mul-le-mul_left
+        (10 ^ 10 * price.num) (omega arith) in
+        omega arith
+
+    covers : {low high : ℕ} → AreRounded (10 ^ 10 * price.num) price.den (10 ^ 10) low high → CoversPrice ⊤ near price low high
     covers {low} {high} h = record {
       below = h.below;
       above = h.above;
       at_most_one = h.at_most;
-      low_near = omega (arith, h.floor);
-      high_near = omega (arith, h.ceiling);
+      low_near = further (10 ^ 10 * price.num) (near - 1) near ((low + 1) * price.den) (omega arith) (omega arith) h.floor;
+      high_near = ceiling_near high h.ceiling;
       never = λ e. none_of high e h.ceiling;
       sure = λ e. all_of low e h.floor h.below;
       floor = λ _. h.floor;
@@ -67,8 +84,9 @@ price_is_covered price p q = (10 ^ 10 * price.num / price.den, (10 ^ 10 * price.
     }
 
 -- what serves the small case serves any
-pub covers_in : (small : Type 0) (price : Fraction) (low high : ℕ) → CoversPrice ⊤ price low high → CoversPrice small price low high
-covers_in small price low high h = record {
+pub covers_in : (small : Type 0) (near : ℕ) (price : Fraction) (low high : ℕ)
+    → CoversPrice ⊤ near price low high → CoversPrice small near price low high
+covers_in small near price low high h = record {
   below = h.below;
   above = h.above;
   at_most_one = h.at_most_one;
@@ -82,19 +100,19 @@ covers_in small price low high h = record {
 }
 
 -- one part in n + 1 is too little for a third unit
-too_wide : (low d n : ℕ) → low ≤ 10 ^ 10 → 2 ^ 40 ≤ n
+too_wide : (low d n : ℕ) → low ≤ 10 ^ 10 → 2 ^ 38 ≤ n
     → (low + 1) * d * (n + 1) * (n + 1) ≤ (low + 2) * d * n * n
 too_wide low d n few wide =
     let a : (low + 1) * (2 * n + 1) ≤ (10 ^ 10 + 1) * (2 * n + 1) = mul-le-mul_right (2 * n + 1)
     (omega arith) in
-    let b : 2 ^ 40 * n ≤ n * n = mul-le-mul_right n wide in
+    let b : 2 ^ 38 * n ≤ n * n = mul-le-mul_right n wide in
     let c : (low + 1) * (2 * n + 1) ≤ n * n = omega arith in
     let e : (low + 1) * (n + 1) * (n + 1) ≤ (low + 2) * n * n = omega arith in
     let f : d * ((low + 1) * (n + 1) * (n + 1)) ≤ d * ((low + 2) * n * n) = mul-le-mul_left d e in
     omega arith
 
 -- p / d is less than low + 1 but for one part in n + 1, and more than high - 1 but for it
-two_wide : (p d n low high : ℕ) → 1 ≤ d → 2 ^ 40 ≤ n → p ≤ 10 ^ 10 * d → low * d ≤ p
+two_wide : (p d n low high : ℕ) → 1 ≤ d → 2 ^ 38 ≤ n → p ≤ 10 ^ 10 * d → low * d ≤ p
     → p * n < (low + 1) * d * (n + 1) → high * d * n < p * (n + 1) + d * n → high ≤ low + 2
 two_wide p d n low high some wide few below low_near high_near = elim (cases_lt (low + 2) high)
     [ inl h ↦ absurd (three h) | inr h ↦ h ]
@@ -110,22 +128,37 @@ two_wide p d n low high some wide few below low_near high_near = elim (cases_lt 
         let g = too_wide low d n (omega arith) wide in
         omega arith
 
-pub price_is_narrow : (small : Type 0) (price : Fraction) (low high : ℕ)
-    → CoversPrice small price low high → high ≤ low + 2
-price_is_narrow small price low high h = elim (cases_lt price.den 1) [
+-- an interval that covers a price by one part in 2^39 or more is at most two units wide
+narrow_price : (small : Type 0) (near : ℕ) (price : Fraction) (low high : ℕ) → 2 ^ 39 ≤ near
+    → CoversPrice small near price low high → high ≤ low + 2
+narrow_price small near price low high wide h = elim (cases_lt price.den 1) [
   | inl none ↦ absurd (nothing none)
   | inr some ↦ two_wide (10 ^ 10 * price.num) price.den
-      (2 ^ 42 - 1) low high some (omega arith) few h.below h.low_near h.high_near
+      (near - 1) low high some (omega arith) few h.below low_near high_near
 ]
   where
     nothing : price.den < 1 → ⊥
     nothing none =
         let e : price.den ≡ 0 = omega arith in
-        let l : 10 ^ 10 * price.num * (2 ^ 42 - 1) < (low + 1) * 0 * 2 ^ 42 = rw e at h.low_near in
+        let l : 10 ^ 10 * price.num * (near - 1) < (low + 1) * 0 * near = rw e at h.low_near in
         omega arith
+
+    same : near ≡ near - 1 + 1
+    same = omega arith
+
+    low_near : 10 ^ 10 * price.num * (near - 1) < (low + 1) * price.den * (near - 1 + 1)
+    low_near = subst (λ n. 10 ^ 10 * price.num * (near - 1) < (low + 1) * price.den * n) same h.low_near
+
+    high_near : high * price.den * (near - 1) < 10 ^ 10 * price.num * (near - 1 + 1) + price.den * (near - 1)
+    high_near = subst (λ n. high * price.den * (near - 1) < 10 ^ 10 * price.num * n + price.den * (near - 1)) same h.high_near
 
     few : 10 ^ 10 * price.num ≤ 10 ^ 10 * price.den
     few = le_trans h.above (mul-le-mul_right price.den h.at_most_one)
+
+pub price_is_narrow : (small : Type 0) (most_trades : ℕ) (price : Fraction) (low high : ℕ)
+    → CoversPrice small (sharpness most_trades) price low high → high ≤ low + 2
+price_is_narrow small most_trades price low high h = narrow_price small (sharpness most_trades)
+    price low high (sharp most_trades) h
 
 -- ---- cash and whole bits
 
@@ -157,12 +190,6 @@ cash_exists q b safe = is_cash (greatest_power (q.num ^ b) (q.den ^ b) (one-le-p
     is_cash : (k : ℕ) × (2 ^ k * q.den ^ b ≤ q.num ^ b) × (q.num ^ b < 2 ^ (k + 1) * q.den ^ b) → (cash : ℕ) × IsCash q b cash
     is_cash k = (k.0, record { covered = k.1; greatest = k.2 })
 
-pub further : (t p n x : ℕ) → p ≤ n → 1 ≤ n → t < x → t * p < x * n
-further t p n x l q h =
-    let a : t * p ≤ t * n = mul-le-mul_left t l in
-    let c : t * n < x * n = mul-lt-mul_of_pos_right h q in
-    omega arith
-
 -- the cash is as near itself as may be
 pub near_itself : (near : ℕ) (q : Fraction) (b cash : ℕ) → 1 ≤ near → IsCash q b cash
     → AreNearCash near q b cash cash
@@ -176,11 +203,11 @@ near_itself near q b cash some is = record {
     less : (near - 1) ^ b ≤ near ^ b
     less = pow-le-pow_left (omega arith) b
 
-pub cash_is_covered : (q : Fraction) (b : ℕ) → IsSafeFactor q
-    → (low : ℕ) × (high : ℕ) × CoversCash ⊤ ⊤ q b low high
-cash_is_covered q b safe = covers (cash_exists q b safe)
+pub cash_is_covered : (near : ℕ) (q : Fraction) (b : ℕ) → 2 ≤ near → IsSafeFactor q
+    → (low : ℕ) × (high : ℕ) × CoversCash ⊤ ⊤ near q b low high
+cash_is_covered near q b wide safe = covers (cash_exists q b safe)
   where
-    covers : (cash : ℕ) × IsCash q b cash → (low : ℕ) × (high : ℕ) × CoversCash ⊤ ⊤ q b low high
+    covers : (cash : ℕ) × IsCash q b cash → (low : ℕ) × (high : ℕ) × CoversCash ⊤ ⊤ near q b low high
     covers c = (
       c.0,
       c.0,
@@ -189,16 +216,16 @@ cash_is_covered q b safe = covers (cash_exists q b safe)
         is_cash = c.1;
         above = le_refl (c.0);
         below = le_refl (c.0);
-        near = near_itself (2 ^ 42) q b (c.0) (omega arith) (c.1);
+        near = near_itself near q b (c.0) (omega arith) (c.1);
         nearer = λ _. near_itself (2 ^ 59) q b (c.0) (omega arith) (c.1);
         exact = λ _. (refl, refl);
       },
     )
 
 -- what serves the small case, and a user without trades, serves any
-pub cash_in : (small idle : Type 0) (q : Fraction) (b low high : ℕ) → CoversCash ⊤ ⊤ q b low high
-    → CoversCash small idle q b low high
-cash_in small idle q b low high h = record {
+pub cash_in : (small idle : Type 0) (near : ℕ) (q : Fraction) (b low high : ℕ)
+    → CoversCash ⊤ ⊤ near q b low high → CoversCash small idle near q b low high
+cash_in small idle near q b low high h = record {
   cash = h.cash;
   is_cash = h.is_cash;
   above = h.above;
@@ -274,10 +301,14 @@ narrow_by c q b low high few near = one_wide (q.num ^ b) (q.den ^ b) (c ^ b) ((c
     high_near : 2 ^ high * c ^ b * q.den ^ b ≤ q.num ^ b * (c + 1) ^ b
     high_near = rw same at near.high_near
 
-pub cash_is_narrow : (small idle : Type 0) (q : Fraction) (b low high : ℕ) → b ≤ million
-    → CoversCash small idle q b low high → high ≤ low + 1
-cash_is_narrow small idle q b low high few h = narrow_by (2 ^ 42 - 1) q b low high (omega arith)
-    h.near
+pub cash_is_narrow : (small idle : Type 0) (most_trades : ℕ) (q : Fraction) (b low high : ℕ)
+    → b ≤ million → CoversCash small idle (sharpness most_trades) q b low high → high ≤ low + 1
+cash_is_narrow small idle most_trades q b low high few h = narrow (sharpness most_trades)
+    (sharp most_trades) h.near
+  where
+    narrow : (near : ℕ) → 2 ^ 39 ≤ near → AreNearCash near q b low high → high ≤ low + 1
+    narrow near wide is = narrow_by (near - 1) q b low high (omega arith)
+        (let e : near ≡ near - 1 + 1 = omega arith in subst (λ n. AreNearCash n q b low high) e is)
 
 pub power_of_power : (m b : ℕ) → (2 ^ m) ^ b ≡ 2 ^ (m * b)
 power_of_power m zero = let e : 0 ≡ m * 0 = omega arith in pow-zero (2 ^ m) ∙ sym (pow-zero 2) ∙ ap (λ k. 2 ^ k) e
@@ -298,20 +329,18 @@ cash_is_bounded q b m cash p h c =
     at_most : q.num ^ b ≤ 2 ^ (m * b) * q.den ^ b
     at_most = rw (← power_of_power m b, ← mul-pow (2 ^ m) q.den b) (pow-le-pow_left h b)
 
-pub most_exists : (q : Fraction) → IsSafeFactor q → (k : ℕ) × IsMost ⊤ ⊤ q k
-most_exists q safe = is_most (greatest_power q.num q.den safe.divides safe.at_least_one)
+pub most_exists : (near : ℕ) (q : Fraction) → 2 ≤ near → IsSafeFactor q → (k : ℕ) × IsMost ⊤ ⊤ near q k
+most_exists near q wide safe = is_most (greatest_power q.num q.den safe.divides safe.at_least_one)
   where
-    nearly : (n m : ℕ) → n < m → n * (2 ^ 43 - 1) < m * 2 ^ 43
-    nearly n m h = omega arith
-
     is_most : (k : ℕ) × (2 ^ k * q.den ≤ q.num) × (q.num < 2 ^ (k + 1) * q.den)
-        → (k : ℕ) × IsMost ⊤ ⊤ q k
+        → (k : ℕ) × IsMost ⊤ ⊤ near q k
     is_most k = (
       k.0,
       record {
         within = k.1;
-        nearly = let l : q.num * (2 ^ 43 - 1) < 2 ^ (k.0 + 1) *
-            q.den * 2 ^ 43 = nearly _ _ (k.2) in omega arith;
+        nearly = let l : q.num * (2 * near - 1) < 2 ^ (k.0 + 1) *
+            q.den * (2 * near) = further q.num (2 * near - 1) (2 * near) (2 ^ (k.0 + 1) * q.den)
+            (omega arith) (omega arith) (k.2) in omega arith;
         exactly = λ _. k.2;
       },
     )
@@ -319,18 +348,20 @@ most_exists q safe = is_most (greatest_power q.num q.den safe.divides safe.at_le
 pub covered_is_less : (q : Fraction) (k bits : ℕ) → Covers q k → ¬ Covers q bits → k < bits
 covered_is_less q k bits p h = elim (cases_lt q.num (2 ^ bits * q.den)) [ inl more ↦ power_less k bits q.den q.num p more | inr less ↦ absurd (h less) ]
 
-pub withdrawal_is_judged : (q : Fraction) (bits : ℕ) → IsSafeFactor q
-    → Covers q bits ⊎ ((most : ℕ) × (most < bits) × IsMost ⊤ ⊤ q most)
-withdrawal_is_judged q bits safe = judge (cases_lt q.num (2 ^ bits * q.den)) (most_exists q safe)
+pub withdrawal_is_judged : (near : ℕ) (q : Fraction) (bits : ℕ) → 2 ≤ near → IsSafeFactor q
+    → Covers q bits ⊎ ((most : ℕ) × (most < bits) × IsMost ⊤ ⊤ near q most)
+withdrawal_is_judged near q bits wide safe = judge (cases_lt q.num (2 ^ bits * q.den))
+    (most_exists near q wide safe)
   where
-    judge : (q.num < 2 ^ bits * q.den) ⊎ Covers q bits → (k : ℕ) × IsMost ⊤ ⊤ q k
-        → Covers q bits ⊎ ((most : ℕ) × (most < bits) × IsMost ⊤ ⊤ q most)
+    judge : (q.num < 2 ^ bits * q.den) ⊎ Covers q bits → (k : ℕ) × IsMost ⊤ ⊤ near q k
+        → Covers q bits ⊎ ((most : ℕ) × (most < bits) × IsMost ⊤ ⊤ near q most)
     judge (inr covered) _ = inl covered
     judge (inl more) k = inr (k.0, power_less (k.0) bits q.den q.num (k.1).within more, k.1)
 
 -- what serves the small case, and a user without trades, serves any
-pub most_in : (small idle : Type 0) (q : Fraction) (k : ℕ) → IsMost ⊤ ⊤ q k → IsMost small idle q k
-most_in small idle q k h = record {
+pub most_in : (small idle : Type 0) (near : ℕ) (q : Fraction) (k : ℕ) → IsMost ⊤ ⊤ near q k
+    → IsMost small idle near q k
+most_in small idle near q k h = record {
   within = h.within;
   nearly = h.nearly;
   exactly = λ _. h.exactly

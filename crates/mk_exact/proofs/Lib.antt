@@ -8,6 +8,7 @@ pub mod Single
 pub mod Positive
 pub mod Comes
 pub mod Range
+pub mod Sharp
 pub mod ExistNumbers
 pub mod ExistLimits
 pub mod Gains

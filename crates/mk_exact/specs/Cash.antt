@@ -20,13 +20,13 @@ pub record IsCashBetween (q : Fraction) (b low high : ℕ) : Type 0 where
   pub above : low ≤ cash
   pub below : cash ≤ high
 
--- low .. high covers the cash, and is near it by one part in 2^42 of the factor; in the small case
+-- low .. high covers the cash, and is near it by one part in so many of the factor; in the small case
 -- by one part in 2^59. Of a user who holds no trade both are the cash
-pub record CoversCash (small idle : Type 0) (q : Fraction) (b low high : ℕ) : Type 0 where
+pub record CoversCash (small idle : Type 0) (parts : ℕ) (q : Fraction) (b low high : ℕ) : Type 0 where
   pub cash : ℕ
   pub is_cash : IsCash q b cash
   pub above : low ≤ cash
   pub below : cash ≤ high
-  pub near : AreNearCash (2 ^ 42) q b low high
+  pub near : AreNearCash parts q b low high
   pub nearer : small → AreNearCash (2 ^ 59) q b low high
   pub exact : idle → (low ≡ cash) × (high ≡ cash)

@@ -1,6 +1,7 @@
 -- Five small networks, the first market's history, and their numbers.
 use Rattle.std.specs.Prelude.{◌≡◌, ℕ, ◌^◌, false, List, [], ◌∷◌, ◌++◌, true, map, codes, Some, None, not}
 use Rattle.mk_net.specs.declared.words.Pair.{Pair}
+use Rattle.mk_net.specs.Bounds.{sharpness}
 use Rattle.mk_net.specs.Network.{Variable, IsNetwork}
 use Rattle.mk_net.specs.Asked.{Asked}
 use Rattle.mk_net.specs.Zeros.{with_zeros}
@@ -126,7 +127,7 @@ pub record IsWorth : Type 0 where
   pub heads_cash : IsCash (factor heads_taken 0 (0 ∷ [])) 100 126
   pub tails_cash : IsCash (factor heads_taken 0 (1 ∷ [])) 100 67
   pub no_bit : IsMost (IsSmall coin heads_taken) (HoldsNoTrade heads_taken 0)
-      (factor_with heads_taken 0 879609302220) 0
+      (sharpness coin_alone.max_trades) (factor_with heads_taken 0 879609302220) 0
 
 -- both sides of heads before it: an even price, and a factor of two
 abbrev pub even : Side
@@ -179,31 +180,32 @@ pub record HasTwoTraders : Type 0 where
   pub alice_after_a_up : least_gain chain (both_traded ++ Resolve (is 0 0) ∷ []) 0 always ≡ Some 1099511627776
 
 -- this is no small case, and yet a price is not two units wide, nor alice paid a point too little
--- or told of a bit too few; and who holds no trade is paid exactly
+-- or told of a bit too few, in a market of any number of trades; and who holds no trade is paid exactly
 abbrev pub alice_after_both : Fraction
 alice_after_both = factor_with both_traded 0 863901993252
 
-pub record AreSharp : Type 0 where
+pub record AreSharp (near : ℕ) : Type 0 where
   pub not_small : IsSmall chain both_traded → ⊥
-  pub price : CoversPrice (IsSmall chain both_traded)
+  pub price : CoversPrice (IsSmall chain both_traded) near
       (exact_price chain both_traded (ask 0 0 (is 2 0 ∷ []))) 5382830626 5382830627
-  pub not_below : CoversPrice (IsSmall chain both_traded)
+  pub not_below : CoversPrice (IsSmall chain both_traded) near
       (exact_price chain both_traded (ask 0 0 (is 2 0 ∷ []))) 5382830625 5382830627 → ⊥
-  pub not_above : CoversPrice (IsSmall chain both_traded)
+  pub not_above : CoversPrice (IsSmall chain both_traded) near
       (exact_price chain both_traded (ask 0 0 (is 2 0 ∷ []))) 5382830626 5382830628 → ⊥
-  pub cash : CoversCash (IsSmall chain both_traded) (HoldsNoTrade both_traded 0) alice_after_both
-      100 165 165
+  pub cash : CoversCash (IsSmall chain both_traded) (HoldsNoTrade both_traded 0)
+      near alice_after_both 100 165 165
   pub not_less : CoversCash (IsSmall chain both_traded) (HoldsNoTrade both_traded 0)
-      alice_after_both 100 164 165 → ⊥
+      near alice_after_both 100 164 165 → ⊥
   pub not_more : CoversCash (IsSmall chain both_traded) (HoldsNoTrade both_traded 0)
-      alice_after_both 100 165 166 → ⊥
-  pub one_bit : IsMost (IsSmall chain both_traded) (HoldsNoTrade both_traded 0) alice_after_both 1
-  pub not_none : IsMost (IsSmall chain both_traded) (HoldsNoTrade both_traded 0) alice_after_both 0
-      → ⊥
+      near alice_after_both 100 165 166 → ⊥
+  pub one_bit : IsMost (IsSmall chain both_traded) (HoldsNoTrade both_traded 0)
+      near alice_after_both 1
+  pub not_none : IsMost (IsSmall chain both_traded) (HoldsNoTrade both_traded 0)
+      near alice_after_both 0 → ⊥
   pub paid_back : CoversCash (IsSmall coin deposited_one) (HoldsNoTrade deposited_one 0)
-      (factor_with deposited_one 0 1) 100 100 100
+      near (factor_with deposited_one 0 1) 100 100 100
   pub not_short : CoversCash (IsSmall coin deposited_one) (HoldsNoTrade deposited_one 0)
-      (factor_with deposited_one 0 1) 100 99 100 → ⊥
+      near (factor_with deposited_one 0 1) 100 99 100 → ⊥
 
 -- a cup of four: two even semi-finals, and an even final of those who win them
 abbrev pub even_row : List ℕ

@@ -4,7 +4,7 @@
 use Rattle.std.specs.Prelude.{◌≡◌, ℕ, ◌+◌, ◌*◌, ◌^◌, ◌<◌, ◌≤◌, true, false, ⊤, ◌⊎◌, List, [], ◌∷◌}
 use Rattle.std.specs.Prelude.{◌++◌, length, Bool, Option, Some}
 use Rattle.std.specs.List.{AllByRecursion, count_by}
-use Rattle.mk_net.specs.Bounds.{max_market_trades, max_transfers, max_transfer_bits, number_limit, million}
+use Rattle.mk_net.specs.Bounds.{max_market_trades, max_transfers, max_transfer_bits, number_limit, million, sharpness}
 use Rattle.mk_net.specs.Network.{Variable, IsNetwork}
 use Rattle.mk_net.specs.Asked.{Asked}
 use Rattle.mk_net.specs.Events.{speaks_of, AreApart}
@@ -36,37 +36,61 @@ pub record IsSafeFactor (q : Fraction) : Type 0 where
   pub divides : 1 ≤ q.den
   pub at_least_one : IsAtLeastOne q
 
--- a price of at most one has an interval, its floor and its ceiling
+-- a price of at most one has an interval, its floor and its ceiling, however near it is to be
 abbrev pub PriceIsCovered : Type 0
-PriceIsCovered = (price : Fraction) → 1 ≤ price.den → price.num ≤ price.den → (low : ℕ) × (high : ℕ) × CoversPrice ⊤ price low high
+PriceIsCovered = (near : ℕ) (price : Fraction) → 2 ≤ near → 1 ≤ price.den → price.num ≤ price.den
+    → (low : ℕ) × (high : ℕ) × CoversPrice ⊤ near price low high
 
 -- and each interval that covers a price is at most two units wide
 abbrev pub PriceIsNarrow : Type 0
-PriceIsNarrow = (network : List Variable) (H : List Entry) (asked : Asked) (low high : ℕ)
-    → CoversPrice (IsSmall network H) (exact_price network H asked) low high → high ≤ low + 2
+PriceIsNarrow = (network : List Variable) (H : List Entry) (most_trades : ℕ) (asked : Asked)
+    (low high : ℕ)
+    → CoversPrice (IsSmall network H) (sharpness most_trades) (exact_price network H asked) low high
+    → high ≤ low + 2
+
+-- what covers a price covers it less sharply too
+abbrev pub PriceCoversMore : Type 0
+PriceCoversMore = (network : List Variable) (H : List Entry) (near nearer : ℕ) (price : Fraction)
+    (low high : ℕ) → 2 ≤ near → near ≤ nearer
+    → CoversPrice (IsSmall network H) nearer price low high
+    → CoversPrice (IsSmall network H) near price low high
 
 -- a factor of at least one has its cash
 abbrev pub CashExists : Type 0
 CashExists = (q : Fraction) (b : ℕ) → IsSafeFactor q → (cash : ℕ) × IsCash q b cash
 
--- and an interval that covers it
+-- and an interval that covers it, however near it is to be
 abbrev pub CashIsCovered : Type 0
-CashIsCovered = (q : Fraction) (b : ℕ) → IsSafeFactor q
-    → (low : ℕ) × (high : ℕ) × CoversCash ⊤ ⊤ q b low high
+CashIsCovered = (near : ℕ) (q : Fraction) (b : ℕ) → 2 ≤ near → IsSafeFactor q
+    → (low : ℕ) × (high : ℕ) × CoversCash ⊤ ⊤ near q b low high
 
 -- at up to a million points per bit each such interval is at most one point wide
 abbrev pub CashIsNarrow : Type 0
-CashIsNarrow = (network : List Variable) (H : List Entry) (u : ℕ) (q : Fraction) (b low high : ℕ)
-    → b ≤ million
-    → CoversCash (IsSmall network H) (HoldsNoTrade H u) q b low high → high ≤ low + 1
+CashIsNarrow = (network : List Variable) (H : List Entry) (most_trades u : ℕ) (q : Fraction)
+    (b low high : ℕ) → b ≤ million
+    → CoversCash (IsSmall network H) (HoldsNoTrade H u) (sharpness most_trades) q b low high
+    → high ≤ low + 1
+
+-- what covers cash covers it less sharply too
+abbrev pub CashCoversMore : Type 0
+CashCoversMore = (network : List Variable) (H : List Entry) (u near nearer : ℕ) (q : Fraction)
+    (b low high : ℕ) → 2 ≤ near → near ≤ nearer
+    → CoversCash (IsSmall network H) (HoldsNoTrade H u) nearer q b low high
+    → CoversCash (IsSmall network H) (HoldsNoTrade H u) near q b low high
 
 -- the cash of a factor of at most 2^m is at most m times the points per bit
 abbrev pub CashIsBounded : Type 0
 CashIsBounded = (q : Fraction) (b m cash : ℕ) → 1 ≤ q.den → q.num ≤ 2 ^ m * q.den → IsCash q b cash → cash ≤ m * b
 
--- some bits, none or more, are the most that a factor of at least one covers
+-- some bits, none or more, are the most that a factor of at least one covers, however near they are to be
 abbrev pub MostExists : Type 0
-MostExists = (q : Fraction) → IsSafeFactor q → (k : ℕ) × IsMost ⊤ ⊤ q k
+MostExists = (near : ℕ) (q : Fraction) → 2 ≤ near → IsSafeFactor q → (k : ℕ) × IsMost ⊤ ⊤ near q k
+
+-- what are the most bits are so less sharply too
+abbrev pub MostCoversMore : Type 0
+MostCoversMore = (network : List Variable) (H : List Entry) (u near nearer : ℕ) (q : Fraction) (k : ℕ)
+    → 2 ≤ near → near ≤ nearer → IsMost (IsSmall network H) (HoldsNoTrade H u) nearer q k
+    → IsMost (IsSmall network H) (HoldsNoTrade H u) near q k
 
 -- what a factor covers is less than what it does not cover
 abbrev pub CoveredIsLess : Type 0
@@ -74,8 +98,8 @@ CoveredIsLess = (q : Fraction) (k bits : ℕ) → Covers q k → ¬ Covers q bit
 
 -- a withdrawal is covered, or more than the most that is
 abbrev pub WithdrawalIsJudged : Type 0
-WithdrawalIsJudged = (q : Fraction) (bits : ℕ) → IsSafeFactor q
-    → Covers q bits ⊎ ((most : ℕ) × (most < bits) × IsMost ⊤ ⊤ q most)
+WithdrawalIsJudged = (near : ℕ) (q : Fraction) (bits : ℕ) → 2 ≤ near → IsSafeFactor q
+    → Covers q bits ⊎ ((most : ℕ) × (most < bits) × IsMost ⊤ ⊤ near q most)
 
 -- two sides have right limits, none or some
 abbrev pub LimitsExist : Type 0
@@ -125,11 +149,11 @@ abbrev pub StateExists : Type 0
 StateExists = (network : List Variable) (H : List Entry) → IsNetwork network → IsProper network H → 1 ≤ length (possible_states network H always)
 
 -- an exact price of at most one, and an interval that covers it
-pub record HasPrice (network : List Variable) (H : List Entry) (asked : Asked) : Type 0 where
+pub record HasPrice (network : List Variable) (H : List Entry) (near : ℕ) (asked : Asked) : Type 0 where
   pub exact : IsPortion (exact_price network H asked)
   pub low : ℕ
   pub high : ℕ
-  pub covers : CoversPrice (IsSmall network H) (exact_price network H asked) low high
+  pub covers : CoversPrice (IsSmall network H) near (exact_price network H asked) low high
 
 -- some interval covers the most that the operator can lose
 pub record HasBound (network : List Variable) (H : List Entry) (b : ℕ) : Type 0 where
@@ -150,8 +174,9 @@ BoundFits = (network : List Variable) (H : List Entry) (b least low high : ℕ) 
 
 -- each question that can be asked has a price
 abbrev pub PriceExists : Type 0
-PriceExists = (network : List Variable) (H : List Entry) (asked : Asked) → IsNetwork network → IsProper network H
-    → CanBeAsked network H asked → HasPrice network H asked
+PriceExists = (network : List Variable) (H : List Entry) (near : ℕ) (asked : Asked) → 2 ≤ near
+    → IsNetwork network → IsProper network H
+    → CanBeAsked network H asked → HasPrice network H near asked
 
 -- a user's least gain over the possible states, whose factor is at least one where the history is sound
 pub record HasLeast (network : List Variable) (H : List Entry) (u : ℕ) : Type 0 where
@@ -201,7 +226,7 @@ OutcomeExists = (network : List Variable) (H : List Entry)
     → IsNetwork network → IsProper network H
     → ((v : ℕ) → v < length network → speaks_of (resolutions H) v ≡ true) → HasOutcome network H
 
--- a history of at most 65,536 trades, their units below 2^63, and at most a million transfers, with at most 1,000 bits in each deposit
+-- a history of at most a million trades, their units below 2^63, and at most a million transfers, with at most 1,000 bits in each deposit
 pub record IsWithinBounds (H : List Entry) : Type 0 where
   pub few_trades : length (trades H) ≤ max_market_trades
   pub units_fit : AllByRecursion (λ (t : UserTrade). AllByRecursion (λ n. n < number_limit) t.ratio.factors) (trades H)
@@ -226,14 +251,14 @@ FairPairFits = (network : List Variable) (H : List Entry) (u : ℕ) (asked : Ask
 
 -- within the bounds the cash in any state fits 63 bits, at up to a million points per bit, and so does each interval that covers it
 abbrev pub CashFits : Type 0
-CashFits = (network : List Variable) (H : List Entry) (u : ℕ) (s : List ℕ) (b low high : ℕ)
-    → IsWithinBounds H → b ≤ million
-    → CoversCash (IsSmall network H) (HoldsNoTrade H u) (factor H u s) b low high
+CashFits = (network : List Variable) (H : List Entry) (most_trades u : ℕ) (s : List ℕ)
+    (b low high : ℕ) → IsWithinBounds H → b ≤ million
+    → CoversCash (IsSmall network H) (HoldsNoTrade H u) (sharpness most_trades) (factor H u s) b low high
     → high < number_limit
 
 -- as does the cash of a least gain
 abbrev pub LeastCashFits : Type 0
-LeastCashFits = (network : List Variable) (H : List Entry) (u : ℕ) (test : List ℕ → Bool) (least b low high : ℕ) → IsWithinBounds H → b ≤ million
+LeastCashFits = (network : List Variable) (H : List Entry) (most_trades u : ℕ) (test : List ℕ → Bool) (least b low high : ℕ) → IsWithinBounds H → b ≤ million
     → least_gain network H u test ≡ Some least
-    → CoversCash (IsSmall network H) (HoldsNoTrade H u) (factor_with H u least) b low high
+    → CoversCash (IsSmall network H) (HoldsNoTrade H u) (sharpness most_trades) (factor_with H u least) b low high
     → high < number_limit

@@ -18,16 +18,16 @@ price_where network H given test = record { num = total network H test; den = to
 abbrev pub exact_price : List Variable → List Entry → Asked → Fraction
 exact_price network H asked = price_where network H asked.condition (with_target asked)
 
--- low .. high, in units of 10^-10, covers the price. Were it less by one part in 2^42, it would be
+-- low .. high, in units of 10^-10, covers the price. Were it less by one part in near, it would be
 -- below low + 1, and were it greater by that, above high - 1. What cannot come costs nothing, and
 -- what is sure all of one; in the small case low is the floor and high the ceiling
-pub record CoversPrice (small : Type 0) (price : Fraction) (low high : ℕ) : Type 0 where
+pub record CoversPrice (small : Type 0) (near : ℕ) (price : Fraction) (low high : ℕ) : Type 0 where
   pub below : low * price.den ≤ 10 ^ 10 * price.num
   pub above : 10 ^ 10 * price.num ≤ high * price.den
   pub at_most_one : high ≤ 10 ^ 10
-  pub low_near : 10 ^ 10 * price.num * (2 ^ 42 - 1) < (low + 1) * price.den * 2 ^ 42
-  pub high_near : high * price.den * (2 ^ 42 - 1) < 10 ^ 10 * price.num * 2 ^ 42 + price.den *
-      (2 ^ 42 - 1)
+  pub low_near : 10 ^ 10 * price.num * (near - 1) < (low + 1) * price.den * near
+  pub high_near : high * price.den * (near - 1) < 10 ^ 10 * price.num * near + price.den *
+      (near - 1)
   pub never : price.num ≡ 0 → high ≡ 0
   pub sure : price.num ≡ price.den → low ≡ 10 ^ 10
   pub floor : small → 10 ^ 10 * price.num < (low + 1) * price.den

@@ -1,4 +1,6 @@
 //! The numbers of five small markets.
+ghost use Rattle.std.specs.Prelude.{ℕ};
+ghost use Rattle.mk_net.specs.Bounds.{sharpness};
 ghost use Rattle.mk_exact.specs.Examples.{AreNetworks, HaveWeights, HavePrices, HasTraded, WasSafe};
 ghost use Rattle.mk_exact.specs.Examples.{IsWorth, HasLimits, HasConditioned, HasTwoTraders};
 ghost use Rattle.mk_exact.specs.Examples.{AreSharp, HasZeros};
@@ -50,7 +52,7 @@ pub fn example_traders()
 
 /// Intervals after these trades that cover a price and cash, and wider ones that do not.
 pub fn example_sharp()
-    ensures { AreSharp }
+    ensures { (most_trades : ℕ) → AreSharp (sharpness most_trades) }
 {}
 
 /// What never and what surely comes in a cup with shares of nothing, and the most that its operator can lose.

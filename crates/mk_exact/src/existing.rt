@@ -5,7 +5,8 @@ ghost use Rattle.mk_exact.specs.Existing.{WithdrawalIsJudged, LimitsExist, Insid
 ghost use Rattle.mk_exact.specs.Existing.{LimitsJudge, StateExists, PriceExists, LeastExists};
 ghost use Rattle.mk_exact.specs.Existing.{SidesExist, RightLimitsExist, OutcomeExists, BoundsKept};
 ghost use Rattle.mk_exact.specs.Existing.{FairPairFits, CashFits, LeastCashFits, BoundExists};
-ghost use Rattle.mk_exact.specs.Existing.{BoundFits};
+ghost use Rattle.mk_exact.specs.Existing.{BoundFits, PriceCoversMore, CashCoversMore};
+ghost use Rattle.mk_exact.specs.Existing.{MostCoversMore};
 
 /// A price of at most one has an interval: its floor and its ceiling.
 pub fn price_is_covered()
@@ -15,6 +16,11 @@ pub fn price_is_covered()
 /// Each interval that covers a price is at most two units wide.
 pub fn price_is_narrow()
     ensures { PriceIsNarrow }
+{}
+
+/// What covers a price covers it less sharply too.
+pub fn price_covers_more()
+    ensures { PriceCoversMore }
 {}
 
 /// A factor of at least one has its cash.
@@ -32,6 +38,11 @@ pub fn cash_is_narrow()
     ensures { CashIsNarrow }
 {}
 
+/// What covers cash covers it less sharply too.
+pub fn cash_covers_more()
+    ensures { CashCoversMore }
+{}
+
 /// The cash of a factor of at most `2^m` is at most `m` times the points per bit.
 pub fn cash_is_bounded()
     ensures { CashIsBounded }
@@ -40,6 +51,11 @@ pub fn cash_is_bounded()
 /// Some bits are the most that a factor of at least one covers.
 pub fn most_exists()
     ensures { MostExists }
+{}
+
+/// Bits that are the most are so less sharply too.
+pub fn most_covers_more()
+    ensures { MostCoversMore }
 {}
 
 /// What a factor covers is less than what it does not cover.

@@ -63,7 +63,7 @@ pub has_room : (H : List history.Entry) (u : ℕ) (t : Tally) (ins outs n : ℕ)
     → length (trades H) ≤ max_market_trades
     → ins ≤ deposited H u → outs ≤ withdrawn H u → n ≤ sum_by (own_trade u) H
     → IsWithin t (2 ^ 54 * ins + 2 ^ 65 * n) (2 ^ 54 * outs + 2 ^ 65 * n)
-    → IsWithin t (2 ^ 85) (2 ^ 85)
+    → IsWithin t (2 ^ 86) (2 ^ 86)
 has_room H u t ins outs n few some a b c h =
     let own = own_trades u H in
     let fewer = own_are_fewer H u in
@@ -74,7 +74,7 @@ has_room H u t ins outs n few some a b c h =
       few_owed = omega (arith, h.few_owed, few.few_withdrawn, some, b, c, own, fewer);
     }
 
-more_room : (t : Tally) → IsWithin t (2 ^ 85) (2 ^ 85) → IsWithin t (2 ^ 100) (2 ^ 100)
+more_room : (t : Tally) → IsWithin t (2 ^ 86) (2 ^ 86) → IsWithin t (2 ^ 100) (2 ^ 100)
 more_room t h = record {
   gained_in_order = h.gained_in_order;
   owed_in_order = h.owed_in_order;
@@ -115,7 +115,7 @@ module _ (network : List Variable) (es : List Entry) (bits : ℕ → ℕ) (u : �
 
   pub all_have_room : (t : Tally) → HasFewBits (changes es) u
       → length (trades (changes es)) ≤ max_market_trades
-      → AddsEntries network (changes es) bits u (changes es) t → IsWithin t (2 ^ 85) (2 ^ 85)
+      → AddsEntries network (changes es) bits u (changes es) t → IsWithin t (2 ^ 86) (2 ^ 86)
   all_have_room t few some h =
       has_room (changes es) u t (deposited (changes es) u) (withdrawn (changes es) u)
       (sum_by (own_trade u) (changes es)) few some (omega arith) (omega arith) (omega arith)

@@ -80,7 +80,7 @@ fn history_tally<E: Engine<SumProd>>(
     ensures adds { (network : List Variable) → IsNetwork network
         → E.stands_for engine.old (weights_of network tree.now (changes history.now))
         → AddsAll network (changes history.now) user result }
-    ensures small { IsWithin result (2 ^ 85) (2 ^ 85) }
+    ensures small { IsWithin result (2 ^ 86) (2 ^ 86) }
 {
     let Held::Present(whole) = engine.belief(ROOT, &Event::empty()) else {
         unreachable!()

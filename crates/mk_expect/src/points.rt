@@ -13,7 +13,7 @@ const PARTS: u128 = 1 << 54;
 /// many as it is at least, and as many as it is at most.
 pub(crate) fn points_of(tally: &Tally, points_per_bit: u32) -> (i64, i64)
     requires few_points { points_per_bit ≤ max_points_per_bit }
-    requires small { IsWithin tally.now (2 ^ 85) (2 ^ 85) }
+    requires small { IsWithin tally.now (2 ^ 86) (2 ^ 86) }
     ensures { ArePoints tally.now points_per_bit result.0 result.1 }
 {
     let points = points_per_bit as u128;

@@ -105,7 +105,7 @@ one_link_fewer cliques links h =
 -- none of the four numbers of the top has a fault
 pub record AreTopPassed (draft : DraftOfMarket) : Type 0 where
   pub points : whole_fault PointsPerBit 1 1000000 draft.points_per_bit ≡ None
-  pub trades : whole_fault MaxTrades 1 65536 draft.max_trades ≡ None
+  pub trades : whole_fault MaxTrades 1 1000000 draft.max_trades ≡ None
   pub users : whole_fault MaxUsers 1 65536 draft.max_users ≡ None
   pub transfers : whole_fault MaxTransfers 1 1000000 draft.max_transfers ≡ None
 
@@ -238,7 +238,7 @@ cast_within key high (negsuc n) small h = cc
 -- the four numbers of the top, as the program casts them
 pub record AreCast (draft : DraftOfMarket) : Type 0 where
   pub points : IsCast 1000000 (to_z w64 (of_z w64 draft.points_per_bit))
-  pub trades : IsCast 65536 (to_z w64 (of_z w64 draft.max_trades))
+  pub trades : IsCast 1000000 (to_z w64 (of_z w64 draft.max_trades))
   pub users : IsCast 65536 (to_z w64 (of_z w64 draft.max_users))
   pub transfers : IsCast 1000000 (to_z w64 (of_z w64 draft.max_transfers))
 
@@ -247,7 +247,7 @@ top_cast draft counted =
     let top = (top_passed draft counted).0 in
     record {
       points = cast_within PointsPerBit 1000000 draft.points_per_bit (omega arith) top.points;
-      trades = cast_within MaxTrades 65536 draft.max_trades (omega arith) top.trades;
+      trades = cast_within MaxTrades 1000000 draft.max_trades (omega arith) top.trades;
       users = cast_within MaxUsers 65536 draft.max_users (omega arith) top.users;
       transfers = cast_within MaxTransfers 1000000 draft.max_transfers (omega arith) top.transfers;
     }

@@ -81,7 +81,7 @@ fn check_wholes(draft: &MarketDraft) -> Result<(), FileFault>
     ensures stops { IfErr result (λ stop. counts.wholes_fault (draft_of draft.now) ≡ Some stop) }
 {
     stop_at(whole_fault(Key::PointsPerBit, 1_000_000, draft.points_per_bit))?;
-    stop_at(whole_fault(Key::MaxTrades, 65_536, draft.max_trades))?;
+    stop_at(whole_fault(Key::MaxTrades, 1_000_000, draft.max_trades))?;
     stop_at(whole_fault(Key::MaxUsers, 65_536, draft.max_users))?;
     stop_at(whole_fault(Key::MaxTransfers, 1_000_000, draft.max_transfers))
 }

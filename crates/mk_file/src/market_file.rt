@@ -22,7 +22,7 @@ pub struct MarketFile {
     ghost points_positive: { 1 ≤ points_per_bit },
     ghost points_most: { points_per_bit ≤ 1000000 },
     ghost trades_positive: { 1 ≤ max_trades },
-    ghost trades_most: { max_trades ≤ 65536 },
+    ghost trades_most: { max_trades ≤ 1000000 },
     ghost users_positive: { 1 ≤ max_users },
     ghost users_most: { max_users ≤ 65536 },
     ghost transfers_positive: { 1 ≤ max_transfers },

@@ -165,6 +165,8 @@ links = [] -> links = []\nzeros = true => accepted
 [[variable]]\nname = 'coin'\nvalues = ['heads', 'tails']\nparents = []\nrows = [[500000, 500000]]\n -> variable = [{ name = 'coin', values = ['a', 'b'], parents = [], rows = [[1, 999999]] }] => accepted
 100 -> 1000000 => accepted
 77 -> 65536 => accepted
+77 -> 65537 => accepted
+77 -> 1000000 => accepted
 77 -> 1 => accepted
 'coin' -> 'c234567890_234567890_234567890_2' => accepted
 ['heads', 'tails']\nparents = []\nrows = [[500000, 500000]] -> ['a', 'b', 'c', 'd']\nparents = []\nrows = [[1, 2, 3, 999994]] => accepted
@@ -197,7 +199,7 @@ links -> link => refused market missing links 0
 100 -> -9223372036854775808 => refused market count points_per_bit 0 -9223372036854775808
 100 -> 9223372036854775807 => refused market count points_per_bit 0 9223372036854775807
 77 -> 0 => refused market count max_trades 0 0
-77 -> 65537 => refused market count max_trades 0 65537
+77 -> 1000001 => refused market count max_trades 0 1000001
 [['coin']] -> [] => refused market count cliques 0 0
 links = [] -> links = [1] => refused market count links 0 1
 [['coin']] -> [['coin'], ['coin']] => refused market count links 0 0
@@ -327,7 +329,8 @@ trades = 1000 -> transfers = 0\nmax_users = 0\nmax_trades = 0 => refused market 
 1000 -> 1000\nmax_transfers = 0\nmax_users = 0 => refused market count max_users 0 0
 1000 -> 0\nmax_transfers = [5] => refused market type max_transfers 0
 1000 -> 1\nmax_users = 1\nmax_transfers = 1 => accepted
-1000 -> 1000\nmax_users = 65536\nmax_transfers = 1000000 => accepted"#;
+1000 -> 1000\nmax_users = 65536\nmax_transfers = 1000000 => accepted
+1000 -> 1000000\nmax_users = 65536\nmax_transfers = 1000000 => accepted"#;
 
 /// A file with some parts replaced, as `old -> new; old -> new`. What ends a line is written `\n`.
 fn edited(alloc: Global, base: &str, edits: &str) -> Result<String, Fail> {

@@ -9,7 +9,8 @@ use Rattle.mk_exact.specs.Factors.{Fraction}
 use Rattle.mk_exact.specs.Cash.{IsCash, AreNearCash, CoversCash}
 use Rattle.mk_exact.specs.Existing.{IsSafeFactor}
 use Rattle.mk_exact.specs.Accepted.{IsMost}
-use Rattle.mk_exact.proofs.ExistNumbers.{cash_exists, power_less, near_itself}
+use Rattle.mk_exact.proofs.Sharp.{less_near}
+use Rattle.mk_exact.proofs.ExistNumbers.{cash_exists, further, power_less, near_itself}
 use Rattle.mk_enclose.specs.declared.factor.Factor.{Factor}
 use Rattle.mk_enclose.specs.Factor.{paid_in, taken_out, StandsFor}
 use Rattle.mk_cash.proofs.Covering.{raised_factor}
@@ -69,49 +70,14 @@ idle_beside factor q scale owned none gained owed = record {
 -- ---- the ends
 
 module _ (q : Fraction) (b low high : ℕ) where
-  -- one part in fewer is nearer
-  pub less_near : (near other : ℕ) → 1 ≤ near → near ≤ other → AreNearCash other q b low high → AreNearCash near q b low high
-  less_near near other some le h = record { low_near = below; high_near = above }
-    where
-      parts : (near - 1) * other ≤ (other - 1) * near
-      parts =
-          let a : (near - 1) * other + other ≡ near * other = by_one near other some in
-          let c : (other - 1) * near + near ≡ other * near = by_one other near (omega arith) in
-          omega arith
-        where
-          by_one : (n m : ℕ) → 1 ≤ n → (n - 1) * m + m ≡ n * m
-          by_one zero m one = absurd (omega arith)
-          by_one (suc n) m one = let e : suc n - 1 ≡ n = omega arith in rw e (omega arith)
-
-      powers : (near - 1) ^ b * other ^ b ≤ (other - 1) ^ b * near ^ b
-      powers = rw (← mul-pow (near - 1) other b, ← mul-pow (other - 1) near b) (pow-le-pow_left parts b)
-
-      below : q.num ^ b * (near - 1) ^ b < 2 ^ (low + 1) * near ^ b * q.den ^ b
-      below = lt_of_mul-lt-mul_right (other ^ b) scaled
-        where
-          scaled : q.num ^ b * (near - 1) ^ b * other ^ b < 2 ^ (low + 1) * near ^ b * q.den ^ b * other ^ b
-          scaled =
-              let a : q.num ^ b * ((near - 1) ^ b * other ^ b) ≤ q.num ^ b * ((other - 1) ^ b * near ^ b) = mul-le-mul_left (q.num ^ b) powers in
-              let c : q.num ^ b * (other - 1) ^ b * near ^ b < 2 ^ (low + 1) * other ^ b * q.den ^ b * near ^ b = mul-lt-mul_of_pos_right h.low_near (one-le-pow b near some) in
-              omega (arith, a, c)
-
-      above : 2 ^ high * (near - 1) ^ b * q.den ^ b ≤ q.num ^ b * near ^ b
-      above = le_of_mul-le-mul_right {k = other ^ b} scaled (one-le-pow b other (omega arith))
-        where
-          scaled : 2 ^ high * (near - 1) ^ b * q.den ^ b * other ^ b ≤ q.num ^ b * near ^ b * other ^ b
-          scaled =
-              let a : 2 ^ high * q.den ^ b * ((near - 1) ^ b * other ^ b) ≤ 2 ^ high * q.den ^ b * ((other - 1) ^ b * near ^ b) = mul-le-mul_left (2 ^ high * q.den ^ b) powers in
-              let c : 2 ^ high * (other - 1) ^ b * q.den ^ b * near ^ b ≤ q.num ^ b * other ^ b * near ^ b = mul-le-mul_right (near ^ b) h.high_near in
-              omega (arith, a, c)
-
   -- the ends are those of an interval that covers the cash
-  pub ends_cover : (small idle : Type 0) (near : ℕ) → 2 ^ 42 ≤ near → (small → 2 ^ 59 ≤ near) → (idle → ⊥) → IsSafeFactor q → AreCashEnds near q b low high → CoversCash small idle q b low high
-  ends_cover small idle near wide small_wide busy safe h = by_cash (cash_exists q b safe)
+  pub ends_cover : (small idle : Type 0) (parts near : ℕ) → 2 ≤ parts → parts ≤ near → (small → 2 ^ 59 ≤ near) → (idle → ⊥) → IsSafeFactor q → AreCashEnds near q b low high → CoversCash small idle parts q b low high
+  ends_cover small idle parts near some wide small_wide busy safe h = by_cash (cash_exists q b safe)
     where
       both : AreNearCash near q b low high
       both = record { low_near = h.low_near; high_near = h.high_near }
 
-      by_cash : (cash : ℕ) × IsCash q b cash → CoversCash small idle q b low high
+      by_cash : (cash : ℕ) × IsCash q b cash → CoversCash small idle parts q b low high
       by_cash c =
           let from = power_less low (c.0 + 1) (q.den ^ b) (q.num ^ b) h.low_is (c.1).greatest in
           let to = power_less (c.0) (high + 1) (q.den ^ b) (q.num ^ b) (c.1).covered h.high_is in
@@ -120,13 +86,13 @@ module _ (q : Fraction) (b low high : ℕ) where
             is_cash = c.1;
             above = omega arith;
             below = omega arith;
-            near = less_near (2 ^ 42) near (omega arith) wide both;
-            nearer = λ s. less_near (2 ^ 59) near (omega arith) (small_wide s) both;
+            near = less_near q b low high parts near (omega arith) wide both;
+            nearer = λ s. less_near q b low high (2 ^ 59) near (omega arith) (small_wide s) both;
             exact = λ i. absurd (busy i);
           }
 
-  pub cover_ends : (small idle : Type 0) (near : ℕ) → AreNearCash near q b low high → CoversCash small idle q b low high → AreCashEnds near q b low high
-  cover_ends small idle near is h =
+  pub cover_ends : (small idle : Type 0) (parts near : ℕ) → AreNearCash near q b low high → CoversCash small idle parts q b low high → AreCashEnds near q b low high
+  cover_ends small idle parts near is h =
       let from : 2 ^ low * q.den ^ b ≤ 2 ^ h.cash * q.den ^ b = mul-le-mul_right (q.den ^ b) (pow_le low h.cash h.above) in
       let to : 2 ^ (h.cash + 1) * q.den ^ b ≤ 2 ^ (high + 1) * q.den ^ b = mul-le-mul_right (q.den ^ b) (pow_le (h.cash + 1) (high + 1) (let l = h.below in omega (arith, l))) in
       record {
@@ -177,8 +143,8 @@ module _ (q : Fraction) (b i o : ℕ) (safe : IsSafeFactor q) (same : q.num ^ b 
           let e : q.den ^ b * (2 ^ i * 2) ≤ 2 ^ i * q.den ^ b = rw (← d, ← same) c in
           omega (arith, e, some)
 
-  pub idle_covers : (small idle : Type 0) (low high : ℕ) → low + o ≡ i → high + o ≡ i → CoversCash small idle q b low high
-  idle_covers small idle low high low_is high_is =
+  pub idle_covers : (small idle : Type 0) (parts low high : ℕ) → 2 ≤ parts → low + o ≡ i → high + o ≡ i → CoversCash small idle parts q b low high
+  idle_covers small idle parts low high some low_is high_is =
       let e : high ≡ low = omega arith in
       let is = idle_cash low low_is in
       rw e (record {
@@ -186,13 +152,13 @@ module _ (q : Fraction) (b i o : ℕ) (safe : IsSafeFactor q) (same : q.num ^ b 
         is_cash = is;
         above = le_refl low;
         below = le_refl low;
-        near = near_itself (2 ^ 42) q b low (omega arith) is;
+        near = near_itself parts q b low (omega arith) is;
         nearer = λ _. near_itself (2 ^ 59) q b low (omega arith) is;
         exact = λ _. (refl, refl);
       })
 
-  pub covers_idle : (small idle : Type 0) (low high : ℕ) → idle → CoversCash small idle q b low high → (low + o ≡ i) × (high + o ≡ i)
-  covers_idle small idle low high none h =
+  pub covers_idle : (small idle : Type 0) (parts low high : ℕ) → idle → CoversCash small idle parts q b low high → (low + o ≡ i) × (high + o ≡ i)
+  covers_idle small idle parts low high none h =
       let less = owed_less in
       let f : i - o + o ≡ i = omega arith in
       let e = cash_is h.cash (i - o) h.is_cash (idle_cash (i - o) f) in
@@ -277,11 +243,12 @@ part_below parts h = let l : 2 ^ parts ≤ 2 ^ 59 = pow_le parts 59 h in omega (
 -- ---- whole bits
 
 -- the most that is below the next bit
-pub whole_most : (small idle : Type 0) (q : Fraction) (most : ℕ) → 2 ^ most * q.den ≤ q.num → q.num < 2 ^ (most + 1) * q.den → IsMost small idle q most
-whole_most small idle q most within past = record { within = within; nearly = nearly; exactly = λ _. past }
+pub whole_most : (small idle : Type 0) (near : ℕ) (q : Fraction) (most : ℕ) → 2 ≤ near
+    → 2 ^ most * q.den ≤ q.num → q.num < 2 ^ (most + 1) * q.den → IsMost small idle near q most
+whole_most small idle near q most wide within past = record { within = within; nearly = nearly; exactly = λ _. past }
   where
-    less : (n m : ℕ) → n < m → n * (2 ^ 43 - 1) < m * 2 ^ 43
-    less n m h = omega (arith, h)
-
-    nearly : q.num * (2 ^ 43 - 1) < 2 ^ (most + 1) * 2 ^ 43 * q.den
-    nearly = let l = less q.num (2 ^ (most + 1) * q.den) past in omega (arith, l)
+    nearly : q.num * (2 * near - 1) < 2 ^ (most + 1) * (2 * near) * q.den
+    nearly =
+        let l : q.num * (2 * near - 1) < 2 ^ (most + 1) * q.den * (2 * near)
+        = further q.num (2 * near - 1) (2 * near) (2 ^ (most + 1) * q.den) (omega arith) (omega arith) past in
+        omega (arith, l)

@@ -1,10 +1,10 @@
 -- In the small case one pair of limits alone is right.
-use Rattle.std.proofs.Common.{◌≡◌, ℕ, ◌^◌, Option, arith}
+use Rattle.std.proofs.Common.{◌≡◌, ℕ, Option, arith}
 use Rattle.std.specs.Bool.{⊤}
 use Rattle.mk_scaled.specs.Near.{near_same}
 use Rattle.mk_exact.specs.Limits.{Side, IsFairAndSolvent, AreRight}
 use Rattle.mk_enclose.specs.declared.enclosure.Enclosure.{Enclosure}
-use Rattle.mk_enclose.specs.Enclosure.{IsExact, IsGradedWithin}
+use Rattle.mk_enclose.specs.Enclosure.{IsExact, IsGradedWithin, widest_grade}
 use Rattle.mk_quote.specs.declared.side.SideBounds.{SideBounds}
 use Rattle.mk_quote.specs.declared.bounds.Bounds.{Bounds}
 use Rattle.mk_quote.specs.Sides.{AreGraded, AreExact}
@@ -12,7 +12,7 @@ use Rattle.mk_quote.specs.Bounds.{EncloseSides, AreAllGraded, AreAllExact, AreRi
 use Rattle.mk_quote.proofs.Spanning.{same_interval}
 use Rattle.mk_judge.proofs.Fairness.{fair_for}
 
-graded : (e : Enclosure) → IsExact e → IsGradedWithin e (2 ^ 17)
+graded : (e : Enclosure) → IsExact e → IsGradedWithin e widest_grade
 graded e exact = record { grade = 0; small = omega arith; has = record { near = rw exact.same (near_same e.hi) } }
 
 pub side_graded : (bounds : SideBounds) → AreExact bounds → AreGraded bounds

@@ -1,5 +1,6 @@
 -- What a factor's bounds say of its cash, and which numbers a judge of it compares.
 use Rattle.std.specs.Prelude.{◌≡◌, ℕ, ◌+◌, ◌-◌, ◌*◌, ◌^◌, ◌⊎◌, Bool, false, if◌then◌else◌}
+use Rattle.mk_net.specs.Bounds.{sharpness}
 use Rattle.mk_exact.specs.Factors.{Fraction, IsAtLeastOne}
 use Rattle.mk_enclose.specs.declared.factor.Factor.{Factor}
 use Rattle.mk_enclose.specs.Enclosure.{HasGrade, IsExact}
@@ -16,9 +17,9 @@ pub record IsOwned (factor : Factor) (q : Fraction) : Type 0 where
   pub held : IsHeld factor q
   pub one : IsAtLeastOne q
 
--- the ends of cash are near by one part in so many
-abbrev pub nearness : Bool → ℕ
-nearness small = if small then 2 ^ 59 else 2 ^ 42
+-- the ends of cash are near by one part in so many, in a market of at most so many trades
+abbrev pub nearness : Bool → ℕ → ℕ
+nearness small most_trades = if small then 2 ^ 59 else sharpness most_trades
 
 -- two numbers that CoversCash compares are near: the factor's power and that of two, at the low end
 -- and behind the high end, and the same off by one part in `near`
@@ -31,10 +32,11 @@ ArePowersNear near q b low high steps =
 
 -- they are near by the steps of the grade of its gain and eight more, for each factor of the power;
 -- never where the user holds no trade
-pub record IsCashNear (small : Bool) (factor : Factor) (q : Fraction) (b low high : ℕ) : Type 0 where
+pub record IsCashNear (small : Bool) (most_trades : ℕ) (factor : Factor) (q : Fraction)
+    (b low high : ℕ) : Type 0 where
   pub traded : factor.trades ≡ 0 → ⊥
   pub near : (g : ℕ) → HasGrade factor.gain g
-      → ArePowersNear (nearness small) q b low high (b * (g + 8))
+      → ArePowersNear (nearness small most_trades) q b low high (b * (g + 8))
 
 -- ---- whole bits
 
@@ -47,10 +49,12 @@ pub record IsBitsNear (factor : Factor) (q : Fraction) (bits : ℕ) : Type 0 whe
   pub near : (g : ℕ) → HasGrade factor.gain g → AreNear (2 ^ bits * q.den) q.num g
 
 -- two numbers that IsMost compares are near by one step more: the bits that are told and the
--- factor, or the next bit and the
--- factor less by one part in 2^43; neither in the small case, nor where the user holds no trade
-pub record AreBitsNear (small : Bool) (factor : Factor) (q : Fraction) (most : ℕ) : Type 0 where
+-- factor, or the next bit and the factor less by one part in twice a market's number; neither in
+-- the small case, nor where the user holds no trade
+pub record AreBitsNear (small : Bool) (most_trades : ℕ) (factor : Factor) (q : Fraction)
+    (most : ℕ) : Type 0 where
   pub traded : factor.trades ≡ 0 → ⊥
   pub large : small ≡ false
   pub near : (g : ℕ) → HasGrade factor.gain g → AreNear (2 ^ most * q.den) q.num (g + 1)
-      ⊎ AreNear (2 ^ (most + 1) * 2 ^ 43 * q.den) (q.num * (2 ^ 43 - 1)) (g + 1)
+      ⊎ AreNear (2 ^ (most + 1) * (2 * sharpness most_trades) * q.den)
+      (q.num * (2 * sharpness most_trades - 1)) (g + 1)

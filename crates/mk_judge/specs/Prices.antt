@@ -29,17 +29,17 @@ HavePriceRange Always = ⊤
 HavePriceRange (Between part whole) = IsInRange (upper_of part * 2 ^ 42) × IsInRange (upper_of whole * 2 ^ 42)
 
 -- two numbers that CoversPrice compares are near: of its low end, of its high end, of one part in
--- 2^42 below the next unit, or of that above the one before
-abbrev pub AreNearUnits : Fraction → ℕ → ℕ → ℕ → Type 0
-AreNearUnits price low high steps =
+-- `near` below the next unit, or of that above the one before
+abbrev pub AreNearUnits : ℕ → Fraction → ℕ → ℕ → ℕ → Type 0
+AreNearUnits near price low high steps =
     AreNear (low * price.den) (10 ^ 10 * price.num) steps
     ⊎ (AreNear (10 ^ 10 * price.num) (high * price.den) steps
-    ⊎ (AreNear ((low + 1) * price.den * 2 ^ 42) (10 ^ 10 * price.num * (2 ^ 42 - 1)) steps
-    ⊎ AreNear (10 ^ 10 * price.num * 2 ^ 42) ((high - 1) * price.den * (2 ^ 42 - 1)) steps))
+    ⊎ (AreNear ((low + 1) * price.den * near) (10 ^ 10 * price.num * (near - 1)) steps
+    ⊎ AreNear (10 ^ 10 * price.num * near) ((high - 1) * price.den * (near - 1)) steps))
 
 -- they are near by two steps more than the grades of both bounds
-abbrev pub IsPriceNear : PriceBounds → Fraction → ℕ → ℕ → Type 0
-IsPriceNear Never price low high = ⊥
-IsPriceNear Always price low high = ⊥
-IsPriceNear (Between part whole) price low high = (g h : ℕ) → HasGrade part g → HasGrade whole h
-    → AreNearUnits price low high (g + h + 2)
+abbrev pub IsPriceNear : ℕ → PriceBounds → Fraction → ℕ → ℕ → Type 0
+IsPriceNear near Never price low high = ⊥
+IsPriceNear near Always price low high = ⊥
+IsPriceNear near (Between part whole) price low high = (g h : ℕ) → HasGrade part g → HasGrade whole h
+    → AreNearUnits near price low high (g + h + 2)

@@ -1,6 +1,6 @@
 //! Judgements of withdrawals: bits that a factor covers, and the most that it covers.
 ghost use Rattle.std.specs.Prelude.{◌≡◌, ℕ, ◌+◌, ◌-◌, ◌*◌, ◌^◌, ◌<◌, ◌≤◌, ◌⊎◌, IsTrue};
-ghost use Rattle.mk_net.specs.Bounds.{number_limit};
+ghost use Rattle.mk_net.specs.Bounds.{number_limit, sharpness};
 ghost use Rattle.mk_exact.specs.Factors.{Fraction};
 ghost use Rattle.mk_exact.specs.Accepted.{Covers, IsMost};
 ghost use Rattle.mk_scaled.specs.Range.{IsInRange};
@@ -12,6 +12,7 @@ ghost use Rattle.mk_judge.specs.Cash.{IsOwned, IsBitsNear, AreBitsNear};
 
 use crate::Judged;
 use crate::cash::almost;
+use crate::near::near_bits;
 use crate::power::compare_worth;
 use crate::scale::Scale;
 use mk_enclose::{Enclosure, Factor};
@@ -36,20 +37,20 @@ pub fn judge_covered(factor: &Factor, bits: u64) -> Judged
     }
 }
 
-/// Judges the most bits that a factor is said to cover. With `small` set its gain was not
-/// rounded, and leaves nothing open.
-pub fn judge_most(factor: &Factor, small: bool, most: u64) -> Judged
+/// Judges the most bits that a factor is said to cover in a market of at most so many trades. With
+/// `small` set its gain was not rounded, and leaves nothing open.
+pub fn judge_most(factor: &Factor, small: bool, most_trades: u32, most: u64) -> Judged
     requires range { HasCashRange factor.now 1 }
     requires fits { most < number_limit }
     ensures allowed { result ≡ Judged.Allowed → (q : Fraction) → IsOwned factor.now q
         → (IsTrue small → IsExact factor.now.gain)
-        → IsMost (IsTrue small) (factor.now.trades ≡ 0) q most }
+        → IsMost (IsTrue small) (factor.now.trades ≡ 0) (sharpness most_trades) q most }
     ensures wrong { result ≡ Judged.Wrong → (q : Fraction) → IsOwned factor.now q
         → (IsTrue small → IsExact factor.now.gain)
-        → IsMost (IsTrue small) (factor.now.trades ≡ 0) q most → ⊥ }
+        → IsMost (IsTrue small) (factor.now.trades ≡ 0) (sharpness most_trades) q most → ⊥ }
     ensures unclear { result ≡ Judged.Unclear → (q : Fraction) → IsOwned factor.now q
         → (IsTrue small → IsExact factor.now.gain)
-        → AreBitsNear small factor.now q most }
+        → AreBitsNear small most_trades factor.now q most }
 {
     let scale = Scale::of(factor, 1);
     if factor.trades == 0 {
@@ -57,7 +58,7 @@ pub fn judge_most(factor: &Factor, small: bool, most: u64) -> Judged
     } else if small {
         whole(&factor.gain, &scale, most)
     } else {
-        nearly(&factor.gain, &scale, most)
+        nearly(&factor.gain, &scale, near_bits(most_trades) + 1, most)
     }
 }
 
@@ -74,18 +75,20 @@ fn whole(gain: &Enclosure, scale: &Scale, most: u64) -> Judged
 }
 
 /// Where they may be one less, for a factor that is above a whole power of two by less than one
-/// part in `2^43`.
-fn nearly(gain: &Enclosure, scale: &Scale, most: u64) -> Judged
+/// part in `2^parts`.
+fn nearly(gain: &Enclosure, scale: &Scale, parts: u32, most: u64) -> Judged
     requires fits { most < number_limit }
-    requires range { IsInRange (upper_of gain.now * (2 ^ 43 - 1)) }
+    requires some_parts { 1 ≤ parts }
+    requires few_parts { parts ≤ 59 }
+    requires range { IsInRange (upper_of gain.now * (2 ^ parts - 1)) }
     ensures { (g z w : ℕ) → Encloses gain.now g → StandsBeside scale.now g z w
-        → Judges result ((2 ^ most * w ≤ z) × (z * (2 ^ 43 - 1) < 2 ^ (most + 1) * 2 ^ 43 * w))
+        → Judges result ((2 ^ most * w ≤ z) × (z * (2 ^ parts - 1) < 2 ^ (most + 1) * 2 ^ parts * w))
         ((h : ℕ) → HasGrade gain.now h → AreNear (2 ^ most * w) z (h + 1)
-        ⊎ AreNear (2 ^ (most + 1) * 2 ^ 43 * w) (z * (2 ^ 43 - 1)) (h + 1)) }
+        ⊎ AreNear (2 ^ (most + 1) * 2 ^ parts * w) (z * (2 ^ parts - 1)) (h + 1)) }
 {
     let one = Enclosure::exact(1);
-    let less = gain.mul(&almost(43));
+    let less = gain.mul(&almost(parts));
     let within = Judged::at_most(compare_worth(&one, most, gain, 0, scale));
-    let greatest = Judged::above(compare_worth(&one, most + 44, &less, 0, scale));
+    let greatest = Judged::above(compare_worth(&one, most + 1 + parts as u64, &less, 0, scale));
     within.and(greatest)
 }

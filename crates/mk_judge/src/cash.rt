@@ -1,6 +1,6 @@
 //! Judgements of printed cash.
 ghost use Rattle.std.specs.Prelude.{◌≡◌, ℕ, ◌+◌, ◌-◌, ◌*◌, ◌^◌, ◌<◌, ◌≤◌, IsTrue};
-ghost use Rattle.mk_net.specs.Bounds.{max_points_per_bit, number_limit};
+ghost use Rattle.mk_net.specs.Bounds.{max_points_per_bit, number_limit, sharpness};
 ghost use Rattle.mk_exact.specs.Factors.{Fraction};
 ghost use Rattle.mk_exact.specs.Cash.{CoversCash};
 ghost use Rattle.mk_enclose.specs.Enclosure.{upper_of, Encloses, HasGrade, IsExact};
@@ -10,31 +10,41 @@ ghost use Rattle.mk_judge.specs.Powers.{HasCashRange};
 ghost use Rattle.mk_judge.specs.Cash.{IsOwned, IsCashNear, ArePowersNear};
 
 use crate::Judged;
+use crate::near::near_bits;
 use crate::power::{compare_worth, raised};
 use crate::scale::Scale;
 use mk_enclose::{Enclosure, Factor};
 
-/// Judges an interval that is printed for the cash of a factor. With `small` set the ends are
-/// held to the small case.
-pub fn judge_cash(factor: &Factor, small: bool, points_per_bit: u32, low: u64, high: u64) -> Judged
+/// Judges an interval that is printed for the cash of a factor in a market of at most so many
+/// trades. With `small` set the ends are held to the small case.
+pub fn judge_cash(
+    factor: &Factor,
+    small: bool,
+    most_trades: u32,
+    points_per_bit: u32,
+    low: u64,
+    high: u64,
+) -> Judged
     requires some_points { 1 ≤ points_per_bit }
     requires few_points { points_per_bit ≤ max_points_per_bit }
     requires range { HasCashRange factor.now points_per_bit }
     requires low_fits { low < number_limit }
     requires high_fits { high < number_limit }
     ensures allowed { result ≡ Judged.Allowed → (q : Fraction) → IsOwned factor.now q
-        → CoversCash (IsTrue small) (factor.now.trades ≡ 0) q points_per_bit low high }
+        → CoversCash (IsTrue small) (factor.now.trades ≡ 0) (sharpness most_trades) q points_per_bit
+        low high }
     ensures wrong { result ≡ Judged.Wrong → (q : Fraction) → IsOwned factor.now q
-        → CoversCash (IsTrue small) (factor.now.trades ≡ 0) q points_per_bit low high → ⊥ }
+        → CoversCash (IsTrue small) (factor.now.trades ≡ 0) (sharpness most_trades) q points_per_bit
+        low high → ⊥ }
     ensures unclear { result ≡ Judged.Unclear → (q : Fraction) → IsOwned factor.now q
-        → IsCashNear small factor.now q points_per_bit low high }
+        → IsCashNear small most_trades factor.now q points_per_bit low high }
 {
     if factor.trades == 0 {
         idle(&Scale::of(factor, points_per_bit), low, high)
     } else if small {
         traded(factor, 59, points_per_bit, low, high)
     } else {
-        traded(factor, 42, points_per_bit, low, high)
+        traded(factor, near_bits(most_trades), points_per_bit, low, high)
     }
 }
 

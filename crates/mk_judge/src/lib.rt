@@ -14,6 +14,7 @@ mod least;
 mod limits;
 mod loss;
 mod multiply;
+mod near;
 mod places;
 mod power;
 mod price;

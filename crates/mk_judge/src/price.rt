@@ -1,5 +1,6 @@
 //! Judgements of printed prices.
 ghost use Rattle.std.specs.Prelude.{◌≡◌, ℕ, ◌+◌, ◌-◌, ◌*◌, ◌^◌, ◌<◌, ◌≤◌, ⊤, true, false, IsTrue};
+ghost use Rattle.mk_net.specs.Bounds.{sharpness};
 ghost use Rattle.mk_exact.specs.Factors.{Fraction};
 ghost use Rattle.mk_exact.specs.Prices.{CoversPrice};
 ghost use Rattle.mk_enclose.specs.Enclosure.{upper_of, Encloses, HasGrade, IsExact};
@@ -11,14 +12,12 @@ ghost use Rattle.mk_judge.specs.Prices.{ArePriceBounds, IsPriceBetween, HavePric
 
 use crate::Judged;
 use crate::comparing::Compared;
+use crate::near::near_part;
 use crate::share::{compare_above, compare_below};
 use mk_enclose::Enclosure;
 
 /// The units of a price of one.
 const UNIT: u64 = 10_000_000_000;
-
-/// A price may be off a unit by less than one part in so many.
-const PART: u64 = 1 << 42;
 
 /// A price by bounds: of what cannot come, of what alone can, or bounds of its numerator and its
 /// denominator.
@@ -29,16 +28,23 @@ pub enum PriceBounds {
     Between { part: Enclosure, whole: Enclosure },
 }
 
-/// Judges an interval that is printed for a price. With `small` set nothing was rounded, and the
-/// bounds leave nothing open.
-pub fn judge_price(bounds: &PriceBounds, small: bool, low: u64, high: u64) -> Judged
+/// Judges an interval that is printed for a price in a market of at most so many trades. With
+/// `small` set nothing was rounded, and the bounds leave nothing open.
+pub fn judge_price(
+    bounds: &PriceBounds,
+    small: bool,
+    most_trades: u32,
+    low: u64,
+    high: u64,
+) -> Judged
     requires { HavePriceRange bounds.now }
     ensures allowed { result ≡ Judged.Allowed → (price : Fraction)
-        → ArePriceBounds bounds.now small price → CoversPrice (IsTrue small) price low high }
+        → ArePriceBounds bounds.now small price → CoversPrice (IsTrue small) (sharpness most_trades) price low high }
     ensures wrong { result ≡ Judged.Wrong → (price : Fraction)
-        → ArePriceBounds bounds.now small price → CoversPrice (IsTrue small) price low high → ⊥ }
+        → ArePriceBounds bounds.now small price → CoversPrice (IsTrue small) (sharpness most_trades) price low high → ⊥ }
     ensures unclear { result ≡ Judged.Unclear → (price : Fraction)
-        → ArePriceBounds bounds.now small price → IsPriceNear bounds.now price low high }
+        → ArePriceBounds bounds.now small price
+        → IsPriceNear (sharpness most_trades) bounds.now price low high }
     ensures clear { result ≡ Judged.Unclear → (price : Fraction)
         → ArePriceBounds bounds.now small price → small ≡ false }
 {
@@ -51,7 +57,7 @@ pub fn judge_price(bounds: &PriceBounds, small: bool, low: u64, high: u64) -> Ju
             } else if small {
                 rounded(part, whole, low, high)
             } else {
-                graded(part, whole, low, high)
+                graded(part, whole, most_trades, low, high)
             }
         }
     }
@@ -72,8 +78,8 @@ fn only(units: u64, low: u64, high: u64) -> Judged
 fn rounded(part: &Enclosure, whole: &Enclosure, low: u64, high: u64) -> Judged
     requires in_order { low ≤ high }
     requires at_most { high ≤ 10 ^ 10 }
-    ensures { (price : Fraction) → IsPriceBetween part.now whole.now true price
-        → Judges result (CoversPrice ⊤ price low high) ⊥ }
+    ensures { (price : Fraction) (most_trades : ℕ) → IsPriceBetween part.now whole.now true price
+        → Judges result (CoversPrice ⊤ (sharpness most_trades) price low high) ⊥ }
 {
     let below = Judged::at_most(compare_below(part, UNIT, whole, 1, low));
     let above = Judged::at_most(compare_above(part, UNIT, whole, 1, high));
@@ -82,48 +88,52 @@ fn rounded(part: &Enclosure, whole: &Enclosure, low: u64, high: u64) -> Judged
     below.and(above).and(floor).and(ceiling)
 }
 
-/// Where the price may be off a unit by less than one part in `PART`.
-fn graded(part: &Enclosure, whole: &Enclosure, low: u64, high: u64) -> Judged
+/// Where the price may be off a unit by less than one part in as many as the market's trades leave.
+fn graded(part: &Enclosure, whole: &Enclosure, most_trades: u32, low: u64, high: u64) -> Judged
     requires in_order { low ≤ high }
     requires at_most { high ≤ 10 ^ 10 }
     requires part_range { IsInRange (upper_of part.now * 2 ^ 42) }
     requires whole_range { IsInRange (upper_of whole.now * 2 ^ 42) }
     ensures { (price : Fraction) → IsPriceBetween part.now whole.now false price
-        → Judges result (CoversPrice ⊥ price low high) (IsPriceNear (Between part.now whole.now) price low high) }
+        → Judges result (CoversPrice ⊥ (sharpness most_trades) price low high)
+        (IsPriceNear (sharpness most_trades) (Between part.now whole.now) price low high) }
 {
+    let near = near_part(most_trades);
     let below = Judged::at_most(compare_below(part, UNIT, whole, 1, low));
     let above = Judged::at_most(compare_above(part, UNIT, whole, 1, high));
-    let low_near = Judged::above(near_below(part, whole, low));
-    let high_near = Judged::above(near_above(part, whole, high));
+    let low_near = Judged::above(near_below(part, whole, near, low));
+    let high_near = Judged::above(near_above(part, whole, near, high));
     below.and(above).and(low_near).and(high_near)
 }
 
-/// Compares the unit after the low end with a price that is less by one part in `PART`.
-fn near_below(part: &Enclosure, whole: &Enclosure, low: u64) -> Compared
+/// Compares the unit after the low end with a price that is less by one part in `near`.
+fn near_below(part: &Enclosure, whole: &Enclosure, near: u64, low: u64) -> Compared
+    requires some { 2 ≤ near }
     requires few { low ≤ 10 ^ 10 }
-    requires part_range { IsInRange (upper_of part.now * 2 ^ 42) }
-    requires whole_range { IsInRange (upper_of whole.now * 2 ^ 42) }
+    requires part_range { IsInRange (upper_of part.now * near) }
+    requires whole_range { IsInRange (upper_of whole.now * near) }
     ensures { (price : Fraction) → IsPriceBetween part.now whole.now false price
-        → Says result ((low + 1) * price.den * 2 ^ 42) (10 ^ 10 * price.num * (2 ^ 42 - 1))
+        → Says result ((low + 1) * price.den * near) (10 ^ 10 * price.num * (near - 1))
         ((g h : ℕ) → HasGrade part.now g → HasGrade whole.now h
-        → AreNear ((low + 1) * price.den * 2 ^ 42) (10 ^ 10 * price.num * (2 ^ 42 - 1)) (g + h + 2)) }
+        → AreNear ((low + 1) * price.den * near) (10 ^ 10 * price.num * (near - 1)) (g + h + 2)) }
 {
-    let less = part.mul(&Enclosure::exact(PART - 1));
-    let more = whole.mul(&Enclosure::exact(PART));
+    let less = part.mul(&Enclosure::exact(near - 1));
+    let more = whole.mul(&Enclosure::exact(near));
     compare_below(&less, UNIT, &more, 1, low + 1)
 }
 
-/// Compares the price with the unit before the high end, less by one part in `PART`.
-fn near_above(part: &Enclosure, whole: &Enclosure, high: u64) -> Compared
+/// Compares the price with the unit before the high end, less by one part in `near`.
+fn near_above(part: &Enclosure, whole: &Enclosure, near: u64, high: u64) -> Compared
+    requires some { 2 ≤ near }
     requires few { high ≤ 10 ^ 10 }
-    requires part_range { IsInRange (upper_of part.now * 2 ^ 42) }
-    requires whole_range { IsInRange (upper_of whole.now * 2 ^ 42) }
+    requires part_range { IsInRange (upper_of part.now * near) }
+    requires whole_range { IsInRange (upper_of whole.now * near) }
     ensures { (price : Fraction) → IsPriceBetween part.now whole.now false price
-        → Says result (10 ^ 10 * price.num * 2 ^ 42) ((high - 1) * price.den * (2 ^ 42 - 1))
+        → Says result (10 ^ 10 * price.num * near) ((high - 1) * price.den * (near - 1))
         ((g h : ℕ) → HasGrade part.now g → HasGrade whole.now h
-        → AreNear (10 ^ 10 * price.num * 2 ^ 42) ((high - 1) * price.den * (2 ^ 42 - 1)) (g + h + 2)) }
+        → AreNear (10 ^ 10 * price.num * near) ((high - 1) * price.den * (near - 1)) (g + h + 2)) }
 {
-    let more = part.mul(&Enclosure::exact(PART));
-    let less = whole.mul(&Enclosure::exact(PART - 1));
+    let more = part.mul(&Enclosure::exact(near));
+    let less = whole.mul(&Enclosure::exact(near - 1));
     compare_above(&more, UNIT, &less, 1, high.saturating_sub(1))
 }

@@ -1,12 +1,12 @@
 -- Prices, and what users are worth at least.
-use Rattle.std.specs.Prelude.{◌≡◌, ℕ, List, Bool, true, false, Option, Some, None, IfSome, IsNone, IsSomeAnd, ◌↔◌}
+use Rattle.std.specs.Prelude.{◌≡◌, ℕ, ◌≤◌, List, length, Bool, true, false, Option, Some, None, IfSome, IsNone, IsSomeAnd, ◌↔◌}
 use Rattle.std.proofs.Common.{refl, sym, ap, subst}
 use Rattle.mk_net.specs.Firsts.{or_else, first_of}
 use Rattle.mk_net.specs.Network.{Variable}
 use Rattle.mk_net.specs.Asked.{Asked}
 use Rattle.mk_net.specs.declared.words.QuestionText.{QuestionText}
 use Rattle.mk_states.specs.Events.{holds}
-use Rattle.mk_exact.specs.History.{Entry}
+use Rattle.mk_exact.specs.History.{Entry, trades}
 use Rattle.mk_exact.specs.Weight.{cannot_come}
 use Rattle.mk_tree.specs.Given.{GivenTree}
 use Rattle.mk_file.specs.declared.market_file.MarketFile.{MarketFile}
@@ -46,16 +46,17 @@ module _ {P A Plan : Type 0} (weights_stand : P → Meaning → Type 0) (gains_s
   -- a question that can be answered
   module _ (question : QuestionText) (asked : Asked) (is_question : IsQuestionFor (market_of file) file.tree journal.history question asked) where
     pub price_allowed : (low high : ℕ) → None ≡ first_of (refusals_by_record (market_of file) journal.history (Price question))
-        → ((tree : GivenTree) (H : List Entry) → weights_stand prices (weights_of file.net tree H) → IsOpen file.net tree H → CanBeAnswered file.net tree H asked
-        → IsPriceFor file.net H asked (Some (low, high)))
+        → ((tree : GivenTree) (H : List Entry) (most_trades : ℕ) → weights_stand prices (weights_of file.net tree H) → IsOpen file.net tree H
+        → length (trades H) ≤ most_trades → CanBeAnswered file.net tree H asked
+        → IsPriceFor file.net H most_trades asked (Some (low, high)))
         → IsAllowedFor (market_of file) (standing_of journal members) (OfCommand (Price question)) (Priced low high)
     price_allowed low high none found =
-        let is = found file.tree journal.history kept.prices_stand opened is_question.answered in
-        let price : IsPrice file.net journal.history asked (Priced low high)
+        let is = found file.tree journal.history file.max_trades kept.prices_stand opened kept.safe.bounded.few_trades is_question.answered in
+        let price : IsPrice file.net journal.history file.max_trades asked (Priced low high)
         = record { low = low; high = high; printed = refl; covers = is.covers } in
         answer_allowed (market_of file) (standing_of journal members) (Price question) (Priced low high)
         (unrefused (market_of file) journal.history (Price question) none (ap (λ o. or_else o None) (comes is.none)))
-        (subst (λ (o : Option Asked). IsSomeAnd o (λ asked. IsPrice file.net journal.history asked (Priced low high))) (sym is_question.named) price)
+        (subst (λ (o : Option Asked). IsSomeAnd o (λ asked. IsPrice file.net journal.history file.max_trades asked (Priced low high))) (sym is_question.named) price)
       where
         can : (b : Bool) → ((b ≡ true) → IsNone {T = ℕ × ℕ} (Some (low, high))) → b ≡ false
         can true h = h refl

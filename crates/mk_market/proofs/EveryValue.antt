@@ -132,16 +132,16 @@ module _ (file : MarketFile) (now : Standing) (v : List ℕ) (condition : ArrayV
     pub prices_allowed : (intervals : ArrayVec (ℕ × ℕ)) →
         None ≡ first_of (refusals_by_record (market_of file) now.history (Prices v condition)) →
         (cannot_come file.net now.history (holds spread.condition) ≡ false)
-        × ArePricesOf file.net now.history spread intervals.items →
+        × ArePricesOf file.net now.history file.max_trades spread intervals.items →
         IsAllowedFor (market_of file) now (OfCommand (Prices v condition)) (Told intervals)
     prices_allowed intervals none found =
-        let told : ArePrices file.net now.history spread (Told intervals) =
+        let told : ArePrices file.net now.history file.max_trades spread (Told intervals) =
         record { intervals = intervals; printed = refl; covers = found.1 } in
         answer_allowed (market_of file) now (Prices v condition) (Told intervals)
         (unrefused (market_of file) now.history (Prices v condition) none
         (ap (λ (o : Option Refusal). first_of (o ∷ [])) (together found.0)))
         (subst (λ (o : Option SpreadAsked). IsSomeAnd o
-        (λ spread. ArePrices file.net now.history spread (Told intervals))) (sym question.named)
+        (λ spread. ArePrices file.net now.history file.max_trades spread (Told intervals))) (sym question.named)
         told)
 
     pub position_allowed : (name : List ℕ) (user : ℕ) → IsUser now.history name user →
@@ -150,19 +150,21 @@ module _ (file : MarketFile) (now : Standing) (v : List ℕ) (condition : ArrayV
         →
         (cannot_come file.net now.history (holds spread.condition) ≡ false)
         × (IsSound file.net now.history →
-        IsPositionOf file.net now.history user file.points_per_bit spread intervals.items) →
+        IsPositionOf file.net now.history file.max_trades user file.points_per_bit spread
+        intervals.items) →
         IsSound file.net now.history →
         IsAllowedFor (market_of file) now (OfCommand (Position name v condition)) (Sure intervals)
     position_allowed name user is_user intervals none found sound =
-        let sure : IsPosition file.net now.history user file.points_per_bit spread (Sure intervals) =
+        let sure : IsPosition file.net now.history file.max_trades user file.points_per_bit spread
+        (Sure intervals) =
         record { intervals = intervals; printed = refl; covers = found.1 sound } in
         answer_allowed (market_of file) now (Position name v condition) (Sure intervals)
         (unrefused (market_of file) now.history (Position name v condition) none
         (ap (λ (o : Option Refusal). first_of (o ∷ [])) (together found.0)))
         (subst (λ (o : Option SpreadAsked). IsSomeAnd o
-        (λ spread. IsPosition file.net now.history (user_number now.history name)
+        (λ spread. IsPosition file.net now.history file.max_trades (user_number now.history name)
         file.points_per_bit spread (Sure intervals))) (sym question.named)
-        (subst (λ (n : ℕ). IsPosition file.net now.history n file.points_per_bit spread
+        (subst (λ (n : ℕ). IsPosition file.net now.history file.max_trades n file.points_per_bit spread
         (Sure intervals)) is_user.number sure))
 
     only : (o : Option Refusal) (why : Refusal) → o ≡ Some why → first_of (o ∷ []) ≡ Some why

@@ -1,10 +1,10 @@
 -- Users are paid, one after another.
-use Rattle.std.specs.Prelude.{◌≡◌, ℕ, ◌+◌, ◌<◌, ◌^◌, zero, suc, List, [], ◌∷◌, ◌++◌, length, map, take, Some, slice_get}
+use Rattle.std.specs.Prelude.{◌≡◌, ℕ, ◌+◌, ◌<◌, ◌≤◌, zero, suc, List, [], ◌∷◌, ◌++◌, length, map, take, Some, slice_get}
 use Rattle.std.specs.List.{AllByRecursion, AllZip, enumerate_from}
 use Rattle.std.proofs.Common.{refl, sym, ap, ap₂, add-zero, ◌∙◌, subst, arith}
 use Rattle.std.proofs.lemmas.List.{map-append, length-map, length_push}
 use Rattle.mk_engine.specs.Meaning.{Meaning}
-use Rattle.mk_net.specs.Bounds.{number_limit}
+use Rattle.mk_net.specs.Bounds.{number_limit, sharpness, grade_room}
 use Rattle.mk_net.specs.Network.{Variable}
 use Rattle.mk_states.proofs.Sums.{each-append}
 use Rattle.mk_exact.specs.Cash.{CoversCash}
@@ -46,17 +46,20 @@ module _ (network : List Variable) (tree : GivenTree) (H : List Entry) (open_for
       let same : Some has.least ≡ Some (gain H user state) = sym has.is_least ∙ only_gain in
       subst (λ (g : ℕ). IsAtLeastOne (factor_with H user g)) (some_is has.least (gain H user state) same) (has.safe sound).at_least_one
 
-  pub covers_factor : IsSound network H → (f : Factor) (points low high : ℕ)
-      → ((g : ℕ) → least_gain network H user always ≡ Some g → IsFactorFor f (IsSmall network H) (factor_with H user g))
+  pub covers_factor : IsSound network H → (f : Factor) (most_trades points low high : ℕ)
+      → ((g : ℕ) → least_gain network H user always ≡ Some g
+      → IsFactorFor f most_trades (IsSmall network H) (factor_with H user g))
       → (HoldsNoTrade H user → Encloses f.gain 1)
-      → ((q : Fraction) → StandsFor f q.num q.den → IsGradedWithin f.gain (2 ^ 17) → IsAtLeastOne q
-      → CoversCash (IsExact f.gain) (Encloses f.gain 1) q points low high)
-      → CoversCash (IsSmall network H) (HoldsNoTrade H user) (factor H user state) points low high
-  covers_factor sound f points low high found one_gain covers =
+      → ((q : Fraction) (most_trades : ℕ) → StandsFor f q.num q.den
+      → IsGradedWithin f.gain (grade_room most_trades) → IsAtLeastOne q
+      → CoversCash (IsExact f.gain) (Encloses f.gain 1) (sharpness most_trades) q points low high)
+      → CoversCash (IsSmall network H) (HoldsNoTrade H user) (sharpness most_trades)
+      (factor H user state) points low high
+  covers_factor sound f most_trades points low high found one_gain covers =
       let is = found (gain H user state) only_gain in
       cash_when (IsSmall network H) (IsExact f.gain) (HoldsNoTrade H user) (Encloses f.gain 1)
-      is.exact one_gain (factor H user state) points low high
-      (covers (factor H user state) is.stands is.graded (safe sound))
+      is.exact one_gain (factor H user state) (sharpness most_trades) points low high
+      (covers (factor H user state) most_trades is.stands is.graded (safe sound))
 
 -- ---- all
 
@@ -86,7 +89,7 @@ next_of {X} (y ∷ xs) m (suc n) x e =
     ∙ ap (λ (rest : List (ℕ × X)). (m, y) ∷ rest) (next_of xs (m + 1) n x e)
     ∙ ap (λ (j : ℕ). (m, y) ∷ (enumerate_from (m + 1) (take n xs) ++ (j, x) ∷ [])) l
 
-module _ {A Plan : Type 0} (gains_stand : A → Meaning → Type 0) (network : List Variable) (tree : GivenTree) (H : List Entry) (points : ℕ) (old : List (Member A Plan)) where
+module _ {A Plan : Type 0} (gains_stand : A → Meaning → Type 0) (network : List Variable) (tree : GivenTree) (H : List Entry) (most_trades points : ℕ) (old : List (Member A Plan)) where
   -- the users before a place have their payments
   pub record ArePaidBefore (n : ℕ) (new : List (Member A Plan)) (payments : List Payment) : Type 0 where
     pub names : names_of new ≡ names_of old
@@ -98,7 +101,7 @@ module _ {A Plan : Type 0} (gains_stand : A → Meaning → Type 0) (network : L
     pub lows_fit : AllByRecursion (λ (p : Payment). p.low < number_limit) payments
     pub highs_fit : AllByRecursion (λ (p : Payment). p.high < number_limit) payments
     pub paid : IsSound network H → (state : List ℕ) → possible_states network H always ≡ state ∷ []
-        → AllZip (IsPayment network H points state) (enumerate_from 0 (take n (names_of old)))
+        → AllZip (IsPayment network H most_trades points state) (enumerate_from 0 (take n (names_of old)))
         payments
 
   pub one_paid : (n : ℕ) (before now : List (Member A Plan)) (payments new_payments : List Payment) (payment : Payment) → n < length old
@@ -108,7 +111,7 @@ module _ {A Plan : Type 0} (gains_stand : A → Meaning → Type 0) (network : L
       → payment.paid ≡ payment.low → payment.low < number_limit → payment.high < number_limit
       → (IsSound network H → (state name : List ℕ) → possible_states network H always ≡ state ∷ []
       → slice_get (names_of before) n ≡ Some name
-      → IsPayment network H points state (n, name) payment)
+      → IsPayment network H most_trades points state (n, name) payment)
       → new_payments ≡ payments ++ payment ∷ [] → ArePaidBefore (n + 1) now new_payments
   one_paid n before now payments new_payments payment within so_far held same_names same_quotes its_user low_end low_fits high_fits is_paid pushed = record {
     names = same_names ∙ so_far.names;
@@ -131,19 +134,19 @@ module _ {A Plan : Type 0} (gains_stand : A → Meaning → Type 0) (network : L
       each_now P so_far its = subst (AllByRecursion P) (sym pushed) (each-append P payments (payment ∷ []) so_far (its, tt))
 
       now_paid : IsSound network H → (state : List ℕ) → possible_states network H always ≡ state ∷ []
-          → AllZip (IsPayment network H points state)
+          → AllZip (IsPayment network H most_trades points state)
           (enumerate_from 0 (take (n + 1) (names_of old))) new_payments
       now_paid sound state one =
           let count = length-map old (λ (m : Member A Plan). m.name) in
           let found = there (names_of old) n (omega (arith, within, count)) in
-          let last : IsPayment network H points state (n, found.0) payment = is_paid sound state (found.0)
+          let last : IsPayment network H most_trades points state (n, found.0) payment = is_paid sound state (found.0)
           one (ap (λ (names : List (List ℕ)). slice_get names n) so_far.names ∙ found.1) in
           let zero_n : 0 + n ≡ n = omega arith in
-          subst (λ (ps : List Payment). AllZip (IsPayment network H points state)
+          subst (λ (ps : List Payment). AllZip (IsPayment network H most_trades points state)
           (enumerate_from 0 (take (n + 1) (names_of old))) ps) (sym pushed)
-          (subst (λ (xs : List (ℕ × List ℕ)). AllZip (IsPayment network H points state) xs
+          (subst (λ (xs : List (ℕ × List ℕ)). AllZip (IsPayment network H most_trades points state) xs
           (payments ++ payment ∷ []))
           (sym (next_of (names_of old) 0 n (found.0) (found.1)
           ∙ ap (λ (k : ℕ). enumerate_from 0 (take n (names_of old)) ++ (k, found.0) ∷ []) zero_n))
-          (zip_push (IsPayment network H points state) (enumerate_from 0 (take n (names_of old)))
+          (zip_push (IsPayment network H most_trades points state) (enumerate_from 0 (take n (names_of old)))
           payments (n, found.0) payment (so_far.paid sound state one) last))

@@ -40,7 +40,7 @@ same_none o p q = is_plain o p ∙ same_plain o p q ∙ sym (is_plain o q)
 same_shares : (network : List Variable) (a b : HasNoZeros network) → a ≡ b
 same_shares network a b = λ i k within j row in_rows n share in_row. le_prop (a k within j row in_rows n share in_row) (b k within j row in_rows n share in_row) i
 
-module _ (file : MarketFile) (some_points : 1 ≤ file.points_per_bit) (few_points : file.points_per_bit ≤ 1000000) (some_trades : 1 ≤ file.max_trades) (few_trades : file.max_trades ≤ 65536)
+module _ (file : MarketFile) (some_points : 1 ≤ file.points_per_bit) (few_points : file.points_per_bit ≤ 1000000) (some_trades : 1 ≤ file.max_trades) (few_trades : file.max_trades ≤ 1000000)
     (some_users : 1 ≤ file.max_users) (few_users : file.max_users ≤ 65536) (some_transfers : 1 ≤ file.max_transfers) (few_transfers : file.max_transfers ≤ 1000000)
     (tree_of_net : ∥ IsTreeOf file.net file.tree ∥₁) (faultless : tree_fault file.net file.tree ≡ None) (no_zeros : file.zeros ≡ false → HasNoZeros file.net) where
   abbrev pub proved_again : MarketFile
@@ -111,7 +111,7 @@ filed inside file = record {
 
 -- so is a market that has it
 pub same_inside : {P A E Plan : Type 0} (inside : Inside P A E Plan) (some_points : 1 ≤ inside.file.points_per_bit) (few_points : inside.file.points_per_bit ≤ 1000000)
-    (some_trades : 1 ≤ inside.file.max_trades) (few_trades : inside.file.max_trades ≤ 65536)
+    (some_trades : 1 ≤ inside.file.max_trades) (few_trades : inside.file.max_trades ≤ 1000000)
     (some_users : 1 ≤ inside.file.max_users) (few_users : inside.file.max_users ≤ 65536) (some_transfers : 1 ≤ inside.file.max_transfers)
     (few_transfers : inside.file.max_transfers ≤ 1000000) (tree_of_net : ∥ IsTreeOf inside.file.net inside.file.tree ∥₁)
     (faultless : tree_fault inside.file.net inside.file.tree ≡ None) (no_zeros : inside.file.zeros ≡ false → HasNoZeros inside.file.net)

@@ -7,7 +7,7 @@ use Rattle.std.proofs.Common.{inl, inr, refl, sym, ap, ap₂, ◌∙◌, subst, 
 use Rattle.std.proofs.lemmas.List.{length_push}
 use Rattle.std.specs.Prelude.{All, option_to_list, ◌≤◌}
 use Rattle.std.proofs.lemmas.Option.{slice_get_within, slice_get-map, get_or_from_slice_get}
-use Rattle.mk_net.specs.Bounds.{max_payments}
+use Rattle.mk_net.specs.Bounds.{max_payments, sharpness}
 use Rattle.mk_net.specs.Network.{Variable, IsNetwork}
 use Rattle.mk_net.specs.declared.words.Pair.{Pair}
 use Rattle.mk_exact.specs.Cash.{CoversCash}
@@ -91,23 +91,23 @@ idle_before H paid u none = subst (λ (ts : List UserTrade). length ts ≡ 0)
 module _ (market : Market) (H : List Entry) (all : List (ℕ × ℕ)) (state : List ℕ) (one : possible_states market.network H always ≡ state ∷ []) where
   -- a user who was paid as it is printed is paid off
   is_paid_off : (u : ℕ) (name : List ℕ) (payment : Payment) (points : ℕ) → points ≡ payment.paid
-      → IsPayment market.network H market.points_per_bit state (u, name) payment
+      → IsPayment market.network H market.max_trades market.points_per_bit state (u, name) payment
       → IsPaidOff market (H ++ Settles all ∷ []) u points
   is_paid_off u name payment points printed is = record {
     state = state;
     one_state = ap (λ (ps : List Pair). filter (λ s. holds ps s && always s) (all_states market.network)) (resolutions_kept H (Settles all) refl) ∙ one;
     high = payment.high;
     covers = subst (λ (low : ℕ). CoversCash (IsSmall market.network (H ++ Settles all ∷ []))
-        (HoldsNoTrade (H ++ Settles all ∷ []) u) (factor (H ++ Settles all ∷ []) u state)
+        (HoldsNoTrade (H ++ Settles all ∷ []) u) (sharpness market.max_trades) (factor (H ++ Settles all ∷ []) u state)
         market.points_per_bit low payment.high)
         (sym (printed ∙ is.low_end))
         (subst (λ (q : Fraction). CoversCash (IsSmall market.network (H ++ Settles all ∷ []))
-        (HoldsNoTrade (H ++ Settles all ∷ []) u) q market.points_per_bit payment.low payment.high)
+        (HoldsNoTrade (H ++ Settles all ∷ []) u) (sharpness market.max_trades) q market.points_per_bit payment.low payment.high)
         (sym (factor_kept H (Settles all) u state (trades_of_kept H (Settles all) u refl) refl refl))
         (cash_when (IsSmall market.network (H ++ Settles all ∷ []))
         (IsSmall market.network H) (HoldsNoTrade (H ++ Settles all ∷ []) u)
         (HoldsNoTrade H u)
-        (small_before market.network H all) (idle_before H all u) (factor H u state)
+        (small_before market.network H all) (idle_before H all u) (factor H u state) (sharpness market.max_trades)
         market.points_per_bit payment.low payment.high is.covers));
   }
 
@@ -119,16 +119,16 @@ settlement_pays_off market H quotes old new at payments allowed paid u within =
     all : List (ℕ × ℕ)
     all = map ends_of payments
 
-    by : IsSettlement market.network H market.points_per_bit (Settled at payments)
+    by : IsSettlement market.network H market.max_trades market.points_per_bit (Settled at payments)
         → IsPaidOff market (H ++ Settles all ∷ []) u (account_of new u).paid
     by is =
         let same : payments ≡ is.payments = (let e = is.printed in cc) in
-        let one = payment_at (IsPayment market.network H market.points_per_bit is.state)
+        let one = payment_at (IsPayment market.network H market.max_trades market.points_per_bit is.state)
         (users H) is.payments 0 u is.paid within in
         let zero_u : 0 + u ≡ u = omega arith in
         is_paid_off market H all is.state is.one_state u (one.0) (one.1) (account_of new u).paid
         (paid u (one.1) (ap (λ (ps : List Payment). slice_get ps u) same ∙ one.2))
-        (subst (λ (k : ℕ). IsPayment market.network H market.points_per_bit is.state
+        (subst (λ (k : ℕ). IsPayment market.network H market.max_trades market.points_per_bit is.state
         (k, one.0) (one.1)) zero_u (one.3))
 
     either : SettlingIs market H (Settled at payments)
@@ -219,8 +219,8 @@ settled_at journal new_journal paid at history now =
 pub listed_settlement : (file : MarketFile) (H : List Entry) (names : List (List ℕ)) (pays : List Payment) (at : ℕ)
     → IsNetwork file.net → IsSafe (market_of file) H → CanBeSettled file.net H → names ≡ users H → at ≡ revision H + 1 → IsSound file.net H
     → (IsSound file.net H → (state : List ℕ) → possible_states file.net H always ≡ state ∷ []
-    → AllZip (IsPayment file.net H file.points_per_bit state) (enumerate_from 0 names) pays)
-    → IsSettlement file.net H file.points_per_bit (Settled at pays)
+    → AllZip (IsPayment file.net H file.max_trades file.points_per_bit state) (enumerate_from 0 names) pays)
+    → IsSettlement file.net H file.max_trades file.points_per_bit (Settled at pays)
 listed_settlement file H names pays at legal safe can named later sound paid =
     let left = outcome_exists file.net H legal safe.proper can.resolved in
     record {
@@ -228,7 +228,7 @@ listed_settlement file H names pays at legal safe can named later sound paid =
       one_state = left.one_state;
       payments = pays;
       printed = ap (λ (n : ℕ). Settled n pays) later;
-      paid = subst (λ (all : List (List ℕ)). AllZip (IsPayment file.net H file.points_per_bit left.state) (enumerate_from 0 all) pays) named
+      paid = subst (λ (all : List (List ℕ)). AllZip (IsPayment file.net H file.max_trades file.points_per_bit left.state) (enumerate_from 0 all) pays) named
           (paid sound left.state left.one_state);
     }
 
@@ -248,7 +248,7 @@ summed_agrees market H reply many e = record {
 }
 
 pub listed_settles : (market : Market) (H : List Entry) (reply : Reply) → length (users H) ≤ max_payments
-    → IsSettlement market.network H market.points_per_bit reply → IsSettling market H reply
+    → IsSettlement market.network H market.max_trades market.points_per_bit reply → IsSettling market H reply
 listed_settles market H reply few is = record { listed = λ _. is; summed = λ many. absurd (omega (arith, few, many)) }
 
 pub summed_settles : (market : Market) (H : List Entry) (reply : Reply) → max_payments < length (users H)

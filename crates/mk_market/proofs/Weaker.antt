@@ -8,9 +8,9 @@ use Rattle.mk_exact.specs.Factors.{Fraction}
 
 module _ (small exact idle one : Type 0) (small_is : small → exact) (idle_is : idle
     → one) (q : Fraction) where
-  pub cash_when : (points low high : ℕ) → CoversCash exact one q points low high
-      → CoversCash small idle q points low high
-  cash_when points low high covers = record {
+  pub cash_when : (near points low high : ℕ) → CoversCash exact one near q points low high
+      → CoversCash small idle near q points low high
+  cash_when near points low high covers = record {
     cash = covers.cash;
     is_cash = covers.is_cash;
     above = covers.above;
@@ -20,8 +20,8 @@ module _ (small exact idle one : Type 0) (small_is : small → exact) (idle_is :
     exact = λ i. covers.exact (idle_is i);
   }
 
-  pub most_when : (bits : ℕ) → IsMost exact one q bits → IsMost small idle q bits
-  most_when bits most = record {
+  pub most_when : (near bits : ℕ) → IsMost exact one near q bits → IsMost small idle near q bits
+  most_when near bits most = record {
     within = most.within;
     nearly = most.nearly;
     exactly = λ either. most.exactly (⊎_elim (λ s. inl (small_is s)) (λ i. inr (idle_is i)) either);

@@ -4,8 +4,8 @@ use Rattle.std.proofs.Common.{refl, sym, ap, ap₂, inl, inr, ◌∙◌, subst, 
 use Rattle.std.proofs.Math.Nat.{mul-le-mul}
 use Rattle.std.proofs.lemmas.List.{length_push}
 use Rattle.mk_net.specs.Network.{Variable}
-use Rattle.mk_net.specs.Bounds.{number_limit}
-use Rattle.mk_exact.specs.History.{Entry, Withdraw as Withdraws, users, withdrawn, revision, is_settlement}
+use Rattle.mk_net.specs.Bounds.{number_limit, sharpness}
+use Rattle.mk_exact.specs.History.{Entry, Withdraw as Withdraws, users, trades, withdrawn, revision, is_settlement}
 use Rattle.mk_tree.specs.Given.{GivenTree}
 use Rattle.mk_file.specs.declared.market_file.MarketFile.{MarketFile}
 use Rattle.mk_file.specs.MarketOf.{market_of}
@@ -83,8 +83,9 @@ module _ {P A Plan : Type 0} (weights_stand : P → Meaning → Type 0) (gains_s
     can_withdraw = record { holding = holding_of file.net file.tree journal.history user; holds = held_still (kept.held user before there); room = bits_fit }
 
     module _ (learnt : OwnsAt gains_stand members user (holding_of file.net file.tree journal.history user)) (factor : Factor) (most : ℕ) (none : None ≡ first_refusal (market_of file) journal.history (Withdraw name bits))
-        (found : (network : List Variable) (tree : GivenTree) (H : List Entry) (u g : ℕ) → Owns gains_stand before (holding_of network tree H u) → IsOpen network tree H
-        → least_gain network H u always ≡ Some g → IsFactorFor factor (IsSmall network H) (factor_with H u g)) where
+        (found : (network : List Variable) (tree : GivenTree) (H : List Entry) (most_trades u g : ℕ) → Owns gains_stand before (holding_of network tree H u) → IsOpen network tree H
+        → length (trades H) ≤ most_trades → least_gain network H u always ≡ Some g
+        → IsFactorFor factor most_trades (IsSmall network H) (factor_with H u g)) where
       has_least : HasLeast file.net journal.history user
       has_least = least_gain_exists file.net journal.history user kept.legal kept.safe.proper
 
@@ -92,33 +93,33 @@ module _ {P A Plan : Type 0} (weights_stand : P → Meaning → Type 0) (gains_s
       worth : Fraction
       worth = factor_with journal.history user has_least.least
 
-      worth_for : IsFactorFor factor (IsSmall file.net journal.history) worth
+      worth_for : IsFactorFor factor file.max_trades (IsSmall file.net journal.history) worth
       unfolding worth
-      worth_for = found file.net file.tree journal.history user has_least.least (learnt before there)
-          (is_open weights_stand gains_stand plan_for file prices rows plan members ledger journal payments till kept) has_least.is_least
+      worth_for = found file.net file.tree journal.history file.max_trades user has_least.least (learnt before there)
+          (is_open weights_stand gains_stand plan_for file prices rows plan members ledger journal payments till kept) kept.safe.bounded.few_trades has_least.is_least
 
       answered : (reply : Reply)
           → IsWithdrawal (IsSmall file.net journal.history) (HoldsNoTrade journal.history user)
-          worth name bits (revision journal.history + 1) reply
+          (sharpness file.max_trades) worth name bits (revision journal.history + 1) reply
           → IsAllowedFor (market_of file) (standing_of journal members) (OfCommand (Withdraw name bits)) reply
       unfolding worth
       answered reply withdrawal =
           let H = journal.history in
           answer_allowed (market_of file) (standing_of journal members) (Withdraw name bits) reply none
           (subst (λ (n : ℕ). IsSomeAnd (least_gain file.net H n always)
-          (λ g. IsWithdrawal (IsSmall file.net H) (HoldsNoTrade H n) (factor_with H n g) name
+          (λ g. IsWithdrawal (IsSmall file.net H) (HoldsNoTrade H n) (sharpness file.max_trades) (factor_with H n g) name
           bits (revision H + 1) reply)) is_user.number
           (subst (λ (o : Option ℕ). IsSomeAnd o (λ g. IsWithdrawal (IsSmall file.net H)
-          (HoldsNoTrade H user) (factor_with H user g) name bits (revision H + 1) reply))
+          (HoldsNoTrade H user) (sharpness file.max_trades) (factor_with H user g) name bits (revision H + 1) reply))
           (sym has_least.is_least) withdrawal))
 
       -- bits beyond the most are refused
       pub short_allowed : ((network : List Variable) (tree : GivenTree) (H : List Entry) (u : ℕ)
           → Owns gains_stand before (holding_of network tree H u) → IsOpen network tree H
           → HoldsNoTrade H u → Encloses factor.gain 1) → most < bits
-          → ((network : List Variable) (H : List Entry) (q : Fraction)
-          → IsFactorFor factor (IsSmall network H) q → IsAtLeastOne q
-          → IsMost (IsSmall network H) (Encloses factor.gain 1) q most)
+          → ((network : List Variable) (H : List Entry) (most_trades : ℕ) (q : Fraction)
+          → IsFactorFor factor most_trades (IsSmall network H) q → IsAtLeastOne q
+          → IsMost (IsSmall network H) (Encloses factor.gain 1) (sharpness most_trades) q most)
           → IsSound file.net journal.history
           → IsAllowedFor (market_of file) (standing_of journal members) (OfCommand (Withdraw name bits)) (Refused (Short most))
       unfolding worth
@@ -127,14 +128,14 @@ module _ {P A Plan : Type 0} (weights_stand : P → Meaning → Type 0) (gains_s
           user in
           let opened = is_open weights_stand gains_stand plan_for file prices rows plan members
           ledger journal payments till kept in
-          let short : IsShort small idle worth bits (Refused (Short most))
+          let short : IsShort small idle (sharpness file.max_trades) worth bits (Refused (Short most))
           = record {
             most = most;
             less = less;
             is_most = most_when small small idle (Encloses factor.gain 1) (λ s. s)
                 (one_gain file.net file.tree journal.history user (learnt before there)
-                opened) worth most
-                (is_most file.net journal.history worth worth_for
+                opened) worth (sharpness file.max_trades) most
+                (is_most file.net journal.history file.max_trades worth worth_for
                 (has_least.safe sound).at_least_one);
             printed = refl;
           } in
@@ -143,8 +144,8 @@ module _ {P A Plan : Type 0} (weights_stand : P → Meaning → Type 0) (gains_s
       -- and others are covered
       pub withdrawal_allowed : (new_journal : JournalOf)
           → new_journal.history ≡ journal.history ++ Withdraws user bits ∷ [] → bits ≤ most
-          → ((network : List Variable) (H : List Entry) (q : Fraction) (bits : ℕ)
-          → IsFactorFor factor (IsSmall network H) q → IsAtLeastOne q → bits ≤ most → Covers q bits)
+          → ((network : List Variable) (H : List Entry) (most_trades : ℕ) (q : Fraction) (bits : ℕ)
+          → IsFactorFor factor most_trades (IsSmall network H) q → IsAtLeastOne q → bits ≤ most → Covers q bits)
           → (at : ℕ) → at ≡ revision new_journal.history → IsSound file.net journal.history
           → IsAllowedFor (market_of file) (standing_of journal members)
           (OfCommand (Withdraw name bits)) (Withdrawn name bits at)
@@ -156,7 +157,7 @@ module _ {P A Plan : Type 0} (weights_stand : P → Meaning → Type 0) (gains_s
           ∙ length_push journal.history (Withdraws user bits)))
           (answered (Withdrawn name bits (revision journal.history + 1))
           (inl (
-            covered file.net journal.history worth bits worth_for
+            covered file.net journal.history file.max_trades worth bits worth_for
                 (has_least.safe sound).at_least_one enough,
             refl,
           )))

@@ -1,9 +1,10 @@
 -- What users are worth at least.
-use Rattle.std.specs.Prelude.{◌≡◌, ℕ, ◌^◌, List, map, Option, Some, None, option_map, slice_get, IsSomeAnd}
+use Rattle.std.specs.Prelude.{◌≡◌, ℕ, ◌≤◌, List, length, map, Option, Some, None, option_map, slice_get, IsSomeAnd}
 use Rattle.std.proofs.Common.{refl, sym, ap, ◌∙◌, subst}
 use Rattle.mk_net.specs.Network.{Variable}
 use Rattle.mk_states.specs.Events.{always}
-use Rattle.mk_exact.specs.History.{Entry}
+use Rattle.mk_net.specs.Bounds.{sharpness, grade_room}
+use Rattle.mk_exact.specs.History.{Entry, trades}
 use Rattle.mk_exact.specs.Weight.{IsSmall}
 use Rattle.mk_exact.specs.Factors.{Fraction, HoldsNoTrade, IsAtLeastOne, factor_with, least_gain}
 use Rattle.mk_exact.specs.Cash.{CoversCash}
@@ -64,20 +65,21 @@ module _ {P A Plan : Type 0} (weights_stand : P → Meaning → Type 0) (gains_s
     has_least = least_gain_exists file.net journal.history user kept.legal kept.safe.proper
 
     pub worst_allowed : OwnsAt gains_stand members user (holding_of file.net file.tree journal.history user) → (factor : Factor) (low high : ℕ) → IsSound file.net journal.history → None ≡ first_refusal (market_of file) journal.history (Worst name)
-        → ((network : List Variable) (tree : GivenTree) (H : List Entry) (u g : ℕ) → Owns gains_stand before (holding_of network tree H u) → IsOpen network tree H
-        → least_gain network H u always ≡ Some g → IsFactorFor factor (IsSmall network H) (factor_with H u g))
+        → ((network : List Variable) (tree : GivenTree) (H : List Entry) (most_trades u g : ℕ) → Owns gains_stand before (holding_of network tree H u) → IsOpen network tree H
+        → length (trades H) ≤ most_trades → least_gain network H u always ≡ Some g
+        → IsFactorFor factor most_trades (IsSmall network H) (factor_with H u g))
         → ((network : List Variable) (tree : GivenTree) (H : List Entry) (u : ℕ)
         → Owns gains_stand before (holding_of network tree H u) → IsOpen network tree H
         → HoldsNoTrade H u → Encloses factor.gain 1)
-        → ((q : Fraction) → StandsFor factor q.num q.den → IsGradedWithin factor.gain (2 ^ 17)
-        → IsAtLeastOne q
-        → CoversCash (IsExact factor.gain) (Encloses factor.gain 1) q file.points_per_bit low high)
+        → ((q : Fraction) (most_trades : ℕ) → StandsFor factor q.num q.den
+        → IsGradedWithin factor.gain (grade_room most_trades) → IsAtLeastOne q
+        → CoversCash (IsExact factor.gain) (Encloses factor.gain 1) (sharpness most_trades) q file.points_per_bit low high)
         → IsAllowedFor (market_of file) (standing_of journal members) (OfCommand (Worst name)) (Worsted low high)
     worst_allowed learnt factor low high sound none found one_gain covers =
         let least = has_least in let H = journal.history in
-        let is = found file.net file.tree H user least.least (learnt before there) opened least.is_least in
+        let is = found file.net file.tree H file.max_trades user least.least (learnt before there) opened kept.safe.bounded.few_trades least.is_least in
         let q = factor_with H user least.least in
-        let worst : IsWorst (IsSmall file.net H) (HoldsNoTrade H user) q file.points_per_bit
+        let worst : IsWorst (IsSmall file.net H) (HoldsNoTrade H user) (sharpness file.max_trades) q file.points_per_bit
         (Worsted low high)
         = record {
           low = low;
@@ -86,15 +88,15 @@ module _ {P A Plan : Type 0} (weights_stand : P → Meaning → Type 0) (gains_s
           covers = cash_when (IsSmall file.net H) (IsExact factor.gain) (HoldsNoTrade H user)
               (Encloses factor.gain 1) is.exact
               (one_gain file.net file.tree H user (learnt before there) opened) q
-              file.points_per_bit low high (covers q is.stands is.graded
-              (least.safe sound).at_least_one);
+              (sharpness file.max_trades) file.points_per_bit low high
+              (covers q file.max_trades is.stands is.graded (least.safe sound).at_least_one);
         } in
         answer_allowed (market_of file) (standing_of journal members) (Worst name) (Worsted low high) none
         (subst (λ (n : ℕ). IsSomeAnd (least_gain file.net H n always)
-        (λ g. IsWorst (IsSmall file.net H) (HoldsNoTrade H n) (factor_with H n g)
+        (λ g. IsWorst (IsSmall file.net H) (HoldsNoTrade H n) (sharpness file.max_trades) (factor_with H n g)
         file.points_per_bit (Worsted low high))) is_user.number
         (subst (λ (o : Option ℕ). IsSomeAnd o (λ g. IsWorst (IsSmall file.net H)
-        (HoldsNoTrade H user) (factor_with H user g) file.points_per_bit (Worsted low high)))
+        (HoldsNoTrade H user) (sharpness file.max_trades) (factor_with H user g) file.points_per_bit (Worsted low high)))
         (sym least.is_least) worst))
 
     pub worst_next : (low high : ℕ) → standing_of journal (with_assets members user now) ≡ after (market_of file) (standing_of journal members) (OfCommand (Worst name)) (Worsted low high)

@@ -1,5 +1,6 @@
 -- The accounts of a market's users, in points.
 use Rattle.std.specs.Prelude.{◌≡◌, ℕ, ◌*◌, ◌<◌, ⊤, List, [], ◌∷◌, ◌++◌, map, length, slice_get, Some}
+use Rattle.mk_net.specs.Bounds.{sharpness}
 use Rattle.mk_states.specs.Events.{always}
 use Rattle.mk_exact.specs.History.{Entry, Settle as Settles, users, deposited, withdrawn, payment_to}
 use Rattle.mk_exact.specs.Weight.{IsSmall, possible_states}
@@ -20,8 +21,8 @@ pub record IsPaidOff (market : Market) (H : List Entry) (u points : ℕ) : Type 
   pub state : List ℕ
   pub one_state : possible_states market.network H always ≡ state ∷ []
   pub high : ℕ
-  pub covers : CoversCash (IsSmall market.network H) (HoldsNoTrade H u) (factor H u state)
-      market.points_per_bit points high
+  pub covers : CoversCash (IsSmall market.network H) (HoldsNoTrade H u)
+      (sharpness market.max_trades) (factor H u state) market.points_per_bit points high
 
 -- a user's account: the points of the bits that went in and out, and what the settlement pays,
 -- which is nothing before it

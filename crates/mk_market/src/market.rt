@@ -71,6 +71,13 @@ impl<P: Engine<SumProd>, A: Engine<MinProd>> Market<P, A> {
         self.file.points_per_bit
     }
 
+    /// The trades that the market takes.
+    pub fn max_trades(&self) -> u32
+        ensures { result ≡ (self.now.market).max_trades }
+    {
+        self.file.max_trades
+    }
+
     /// How many questions were added since the opening.
     pub fn added(&self) -> u32
         ensures { result ≡ length (additions (self.now.standing).history) }

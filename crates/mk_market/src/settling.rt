@@ -103,7 +103,8 @@ ghost use Rattle.std.specs.Prelude.{slice_get, All};
 ghost use Rattle.std.specs.List.{AllZip, enumerate_from};
 ghost use Rattle.mk_net.specs.Bounds.{max_users, number_limit};
 ghost use Rattle.mk_states.specs.Events.{always};
-ghost use Rattle.mk_exact.specs.History.{is_settled, users as users_of, payment_to, or_nothing};
+ghost use Rattle.mk_exact.specs.History.{is_settled, trades, users as users_of, payment_to};
+ghost use Rattle.mk_exact.specs.History.{or_nothing};
 ghost use Rattle.mk_exact.specs.ByRule.{payments_by_rule};
 ghost use Rattle.mk_exact.specs.Sound.{IsSound};
 ghost use Rattle.mk_exact.specs.Weight.{possible_states};
@@ -127,6 +128,7 @@ fn pay<A: Engine<MinProd>>(
     payments: &mut Payments,
 )
     requires is_open { IsOpen file.now.net file.now.tree journal.now.history }
+    requires trades { length (trades journal.now.history) ≤ file.now.max_trades }
     requires held { AreHeld A.stands_for file.now.net file.now.tree journal.now.history users.old }
     requires few { length users.old ≤ 256 }
     requires unpaid { payments.old ≡ [] }
@@ -139,7 +141,8 @@ fn pay<A: Engine<MinProd>>(
     ensures lows_fit { All (λ p. p.low < number_limit) payments.new }
     ensures payments { IsSound file.now.net journal.now.history
         → (state : List ℕ) → possible_states file.now.net journal.now.history always ≡ state ∷ []
-        → AllZip (IsPayment file.now.net journal.now.history file.now.points_per_bit state)
+        → AllZip (IsPayment file.now.net journal.now.history file.now.max_trades file.now.points_per_bit
+        state)
         (enumerate_from 0 (names_of users.old)) payments.new }
 {
     for user in 0..users.count() {
@@ -156,6 +159,7 @@ fn payment_of<A: Engine<MinProd>>(
     user: u32,
 ) -> Payment
     requires is_open { IsOpen file.now.net file.now.tree journal.now.history }
+    requires trades { length (trades journal.now.history) ≤ file.now.max_trades }
     requires held { AreHeld A.stands_for file.now.net file.now.tree journal.now.history users.old }
     requires user { user < length users.old }
     ensures held { AreHeld A.stands_for file.now.net file.now.tree journal.now.history users.new }
@@ -166,8 +170,8 @@ fn payment_of<A: Engine<MinProd>>(
         → (state name : List ℕ) → possible_states file.now.net journal.now.history always
         ≡ state ∷ []
         → slice_get (names_of users.old) user ≡ Some name
-        → IsPayment file.now.net journal.now.history file.now.points_per_bit state (user, name)
-        result }
+        → IsPayment file.now.net journal.now.history file.now.max_trades file.now.points_per_bit state
+        (user, name) result }
     ensures low_end { result.paid ≡ result.low }
     ensures low_fits { result.low < number_limit }
     ensures high_fits { result.high < number_limit }

@@ -1,5 +1,5 @@
 -- How much there may be of each thing in a market: each limit has its name here.
-use Rattle.std.specs.Prelude.{ℕ, ◌+◌, ◌^◌}
+use Rattle.std.specs.Prelude.{ℕ, ◌+◌, ◌-◌, ◌^◌, nat_le, if◌then◌else◌}
 
 -- variables of a network, values of a variable, and parents of one
 abbrev pub max_variables : ℕ
@@ -33,7 +33,7 @@ abbrev pub max_users : ℕ
 max_users = 65536
 
 abbrev pub max_market_trades : ℕ
-max_market_trades = 65536
+max_market_trades = 1000000
 
 abbrev pub max_transfers : ℕ
 max_transfers = 1000000
@@ -47,6 +47,18 @@ usual_users = 256
 
 abbrev pub usual_transfers : ℕ
 usual_transfers = 65536
+
+-- trades of a market whose printed numbers are sharpest
+abbrev pub usual_trades : ℕ
+usual_trades = 65536
+
+-- printed prices and cash are near by one part in this, where there may be so many trades
+abbrev pub sharpness : ℕ → ℕ
+sharpness most_trades = if nat_le most_trades usual_trades then 2 ^ 42 else 2 ^ 39
+
+-- the greatest grade of an enclosure behind a printed number, where there may be so many trades
+abbrev pub grade_room : ℕ → ℕ
+grade_room most_trades = if nat_le most_trades usual_trades then 2 ^ 17 else 2 ^ 20 - 1
 
 -- payments that the reply to a settlement lists
 abbrev pub max_payments : ℕ

@@ -8,7 +8,7 @@ use Rattle.mk_exact.specs.Prices.{IsSolvent}
 use Rattle.mk_exact.specs.Limits.{Side, IsFairAndSolvent, IsWanted, IsFloorSolvent}
 use Rattle.mk_enclose.specs.declared.enclosure.Enclosure.{Enclosure}
 use Rattle.mk_enclose.specs.declared.factor.Factor.{Factor}
-use Rattle.mk_enclose.specs.Enclosure.{lower_of, upper_of, IsGradedWithin}
+use Rattle.mk_enclose.specs.Enclosure.{lower_of, upper_of, IsGradedWithin, widest_grade}
 use Rattle.mk_enclose.specs.Factor.{paid_in, taken_out}
 use Rattle.mk_enclose.specs.inner.Widths.{narrow_ends}
 use Rattle.mk_quote.specs.declared.side.SideBounds.{SideBounds}
@@ -118,10 +118,9 @@ units_owed trades taken =
 divided : (factor : Factor) → 1 ≤ 2 ^ taken_out factor.net * (2 ^ 40) ^ factor.trades
 divided factor = one-le-mul (pow_pos (taken_out factor.net)) (one-le-pow factor.trades (2 ^ 40) (omega arith))
 
-narrow : (e : Enclosure) → IsGradedWithin e (2 ^ 17) → upper_of e * 2 ^ 40 ≤ lower_of e * (2 ^ 40 + 1)
+narrow : (e : Enclosure) → IsGradedWithin e widest_grade → upper_of e * 2 ^ 40 ≤ lower_of e * (2 ^ 40 + 1)
 narrow e graded =
-    let few = graded.small in
-    narrow_ends (lower_of e) (upper_of e) graded.grade (omega (arith, few)) graded.has.near
+    narrow_ends (lower_of e) (upper_of e) graded.grade graded.small graded.has.near
 
 ends_of : (bounds : SideBounds) (side : Side) → AreBoundsOf bounds side → AreGraded bounds
     → AreEnds (lower_of bounds.part) side.price.num (upper_of bounds.part) (lower_of bounds.whole) side.price.den (upper_of bounds.whole)

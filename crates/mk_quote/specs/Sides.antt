@@ -4,7 +4,7 @@ use Rattle.mk_net.specs.Bounds.{number_limit, million}
 use Rattle.mk_states.specs.Ratios.{unit}
 use Rattle.mk_exact.specs.Limits.{Side}
 use Rattle.mk_enclose.specs.declared.factor.Factor.{Factor}
-use Rattle.mk_enclose.specs.Enclosure.{lower_of, upper_of, Encloses, IsExact, IsGradedWithin}
+use Rattle.mk_enclose.specs.Enclosure.{lower_of, upper_of, Encloses, IsExact, IsGradedWithin, widest_grade}
 use Rattle.mk_enclose.specs.Factor.{paid_in, taken_out, StandsFor}
 use Rattle.mk_quote.specs.declared.side.SideBounds.{SideBounds}
 use Rattle.mk_quote.specs.Spans.{span}
@@ -16,11 +16,11 @@ pub record AreBoundsOf (bounds : SideBounds) (side : Side) : Type 0 where
   pub share : side.price.num ≤ side.price.den
   pub least : StandsFor bounds.factor side.least.num side.least.den
 
--- the ends of each enclosure are near each other
+-- the ends of each enclosure are near each other, within one part in 2 ^ 40
 pub record AreGraded (bounds : SideBounds) : Type 0 where
-  pub part : IsGradedWithin bounds.part (2 ^ 17)
-  pub whole : IsGradedWithin bounds.whole (2 ^ 17)
-  pub gain : IsGradedWithin bounds.factor.gain (2 ^ 17)
+  pub part : IsGradedWithin bounds.part widest_grade
+  pub whole : IsGradedWithin bounds.whole widest_grade
+  pub gain : IsGradedWithin bounds.factor.gain widest_grade
 
 -- nothing was rounded on this side
 pub record AreExact (bounds : SideBounds) : Type 0 where

@@ -5,6 +5,7 @@ use Rattle.std.proofs.Common.{append-nil}
 use Rattle.std.specs.Prelude.{option_to_list}
 use Rattle.std.specs.List.{AllZip, enumerate_from}
 use Rattle.mk_net.specs.Firsts.{first_of}
+use Rattle.mk_net.specs.Bounds.{sharpness}
 use Rattle.mk_states.specs.Events.{always}
 use Rattle.mk_exact.specs.History.{Entry, users, revision}
 use Rattle.mk_exact.specs.Weight.{IsSmall}
@@ -152,7 +153,8 @@ module _ (market : Market) (H : List Entry) where
     where
       at : (g : ℕ)
           → IsWithdrawal (IsSmall market.network H) (HoldsNoTrade H (user_number H u))
-          (factor_with H (user_number H u) g) u bits (revision H + 1) reply
+          (sharpness market.max_trades) (factor_with H (user_number H u) g) u bits (revision H + 1)
+          reply
           → AgreesIf (Withdraw u bits) reply
       at g (inl taken) = agrees_as (Withdraw u bits) reply _ taken.1 refl
       at g (inr short) = quiet (Withdraw u bits) reply _ short.printed refl

@@ -9,6 +9,7 @@ use Rattle.std.proofs.lemmas.Slice.Zip.{AllZip-long}
 use Rattle.mk_net.specs.Network.{Variable}
 use Rattle.mk_net.specs.Asked.{Asked}
 use Rattle.mk_states.specs.Events.{always}
+use Rattle.mk_net.specs.Bounds.{sharpness}
 use Rattle.mk_exact.specs.History.{Entry, users, revision}
 use Rattle.mk_exact.specs.Weight.{IsSmall}
 use Rattle.mk_exact.specs.Factors.{Fraction, HoldsNoTrade, factor, factor_with, least_gain}
@@ -46,10 +47,10 @@ use Rattle.mk_rules.specs.Answers.{IsSettling}
 use Rattle.mk_rules.proofs.Unrefused.{none_applies, all_resolved}
 use Rattle.mk_rules.proofs.Paying.{SettlingIs, settling_is}
 
-one_paid : (network : List Variable) (H : List Entry) (b : ℕ) (s : List ℕ) (user : ℕ × List ℕ)
-    (payment : Payment) → IsPayment network H b s user payment
+one_paid : (network : List Variable) (H : List Entry) (m b : ℕ) (s : List ℕ) (user : ℕ × List ℕ)
+    (payment : Payment) → IsPayment network H m b s user payment
     → IsWithinCash (factor H (user.0) s) b payment.paid
-one_paid network H b s user payment h = record {
+one_paid network H m b s user payment h = record {
   cash = h.covers.cash;
   is_cash = h.covers.is_cash;
   at_most = subst
@@ -57,27 +58,27 @@ one_paid network H b s user payment h = record {
 }
 
 -- the payments to users that are counted from n on
-each_paid : (network : List Variable) (H : List Entry) (b : ℕ) (s : List ℕ) (n : ℕ)
+each_paid : (network : List Variable) (H : List Entry) (m b : ℕ) (s : List ℕ) (n : ℕ)
     (names : List (List ℕ)) (payments : List Payment)
-    → AllZip (IsPayment network H b s) (enumerate_from n names) payments
+    → AllZip (IsPayment network H m b s) (enumerate_from n names) payments
     → (k u : ℕ) → n + k ≡ u → k < length names → IsWithinCash (factor H u s) b (slice_index (paid_by payments) k)
-each_paid network H b s n [] payments h k u e inside = absurd (omega arith)
-each_paid network H b s n (name ∷ names) [] h k u e inside = absurd h
-each_paid network H b s n (name ∷ names) (payment ∷ payments) h zero u e inside =
+each_paid network H m b s n [] payments h k u e inside = absurd (omega arith)
+each_paid network H m b s n (name ∷ names) [] h k u e inside = absurd h
+each_paid network H m b s n (name ∷ names) (payment ∷ payments) h zero u e inside =
     let same : n ≡ u = omega arith in
     subst (λ (v : ℕ). IsWithinCash (factor H v s) b payment.paid) same
-    (one_paid network H b s (n, name) payment h.0)
-each_paid network H b s n (name ∷ names) (payment ∷ payments) h (suc k) u e inside = each_paid
-    network H b s (n + 1) names payments h.1 k u (omega arith) (omega arith)
+    (one_paid network H m b s (n, name) payment h.0)
+each_paid network H m b s n (name ∷ names) (payment ∷ payments) h (suc k) u e inside = each_paid
+    network H m b s (n + 1) names payments h.1 k u (omega arith) (omega arith)
 
-are_payments : (network : List Variable) (H : List Entry) (b : ℕ) (s : List ℕ)
+are_payments : (network : List Variable) (H : List Entry) (m b : ℕ) (s : List ℕ)
     (payments : List Payment)
-    → AllZip (IsPayment network H b s) (enumerate_from 0 (users H)) payments
+    → AllZip (IsPayment network H m b s) (enumerate_from 0 (users H)) payments
     → ArePayments H b s (paid_by payments)
-are_payments network H b s payments h = record {
-  one_each = length-map payments (λ (p : Payment). p.paid) ∙ AllZip-long (IsPayment network H b s)
+are_payments network H m b s payments h = record {
+  one_each = length-map payments (λ (p : Payment). p.paid) ∙ AllZip-long (IsPayment network H m b s)
       (enumerate_from 0 (users H)) payments h ∙ length-enumerate_from 0 (users H);
-  within = λ u inside. each_paid network H b s 0 (users H) payments h u u (omega arith) inside;
+  within = λ u inside. each_paid network H m b s 0 (users H) payments h u u (omega arith) inside;
 }
 
 -- payments within the cash of each user cost at most the bound
@@ -131,10 +132,10 @@ no_settlement : (reply known : Reply) → reply ≡ known → IsSettledReply rep
 no_settlement reply known e h = subst IsSettledReply e h
 
 -- no other command is answered by a settlement
-withdrawal_settles_not : (small idle : Type 0) (q : Fraction) (u : List ℕ) (bits n : ℕ)
-    (reply : Reply) → IsWithdrawal small idle q u bits n reply → IsSettledReply reply → ⊥
-withdrawal_settles_not small idle q u bits n reply (inl taken) h = no_settlement reply _ taken.1 h
-withdrawal_settles_not small idle q u bits n reply (inr short) h = no_settlement reply _ short.printed h
+withdrawal_settles_not : (small idle : Type 0) (near : ℕ) (q : Fraction) (u : List ℕ) (bits n : ℕ)
+    (reply : Reply) → IsWithdrawal small idle near q u bits n reply → IsSettledReply reply → ⊥
+withdrawal_settles_not small idle near q u bits n reply (inl taken) h = no_settlement reply _ taken.1 h
+withdrawal_settles_not small idle near q u bits n reply (inr short) h = no_settlement reply _ short.printed h
 
 edit_settles_not : (network : List Variable) (H : List Entry) (u : ℕ) (asked : Asked) (X : ℕ) (reply : Reply) (o : Option Interval)
     → MatchOption o (IsJudgedAfresh network H u asked X reply) (λ limits. IsJudged network H u asked X limits reply) → IsSettledReply reply → ⊥
@@ -158,7 +159,7 @@ module _ (market : Market) (H : List Entry) (quotes : Quotes) (reply : Reply) wh
   settles_alone (Withdraw u bits) h s =
       let least = value_of _ (least_gain market.network H (user_number H u) always) h in
       absurd (withdrawal_settles_not (IsSmall market.network H)
-      (HoldsNoTrade H (user_number H u)) (factor_with H (user_number H u) least.0) u bits
+      (HoldsNoTrade H (user_number H u)) (sharpness market.max_trades) (factor_with H (user_number H u) least.0) u bits
       (revision H + 1) reply least.2 s)
   settles_alone (Price q) h s = absurd (no_settlement reply _ (value_of _ (question_named market.network q) h).2.printed s)
   settles_alone (Limits u q) h s = absurd (no_settlement reply _ (value_of _ (question_named market.network q) h).2.printed s)
@@ -191,7 +192,7 @@ module _ (market : Market) (H : List Entry) (quotes : Quotes) (reply : Reply) wh
       at : SettlingIs market H reply → PaysWithin market H reply
       at (inl (few, listed)) = subst (PaysWithin market H) (sym listed.printed)
           (payments_cost market H listed.state (paid_by listed.payments) stands listed.one_state
-          (are_payments market.network H market.points_per_bit listed.state listed.payments listed.paid))
+          (are_payments market.network H market.max_trades market.points_per_bit listed.state listed.payments listed.paid))
       at (inr (many, e)) =
           let left = outcome_exists market.network H stands.legal.network stands.proper
           (all_resolved market.network H (none_applies (refusals market H Settle) none).1.0) in

@@ -11,6 +11,7 @@ use Rattle.mk_net.specs.Named.{pair_named}
 use Rattle.mk_net.specs.Asked.{Asked}
 use Rattle.mk_net.specs.Firsts.{fault_if, first_of}
 use Rattle.mk_states.specs.Events.{always}
+use Rattle.mk_net.specs.Bounds.{sharpness}
 use Rattle.mk_exact.specs.History.{Entry, Join, Deposit as Deposits, Withdraw as Withdraws, Settle as Settles, Add as Adds, join_in, users, revision}
 use Rattle.mk_exact.specs.Weight.{IsSmall}
 use Rattle.mk_exact.specs.Factors.{HoldsNoTrade, factor_with, least_gain}
@@ -273,7 +274,7 @@ module _ (market : Market) (now : Standing) (kept : AreKept market now.history n
 
   withdrawal_kept : (u : List ℕ) (bits g : ℕ) (reply : Reply)
       → IsWithdrawal (IsSmall market.network now.history)
-      (HoldsNoTrade now.history (user_number now.history u))
+      (HoldsNoTrade now.history (user_number now.history u)) (sharpness market.max_trades)
       (factor_with now.history (user_number now.history u) g) u bits (revision now.history + 1)
       reply
       → KeptAfter market now (Withdraw u bits) reply

@@ -30,7 +30,9 @@ use Rattle.mk_exact.specs.Limits.{IsWithinRange}
 use Rattle.mk_exact.specs.Prices.{exact_price}
 use Rattle.mk_exact.specs.Sides.{AreRightLimits}
 use Rattle.mk_exact.specs.Market.{Market}
+use Rattle.mk_net.specs.Bounds.{sharpness}
 use Rattle.mk_exact.specs.Cash.{CoversCash}
+use Rattle.mk_exact.proofs.Sharp.{sharp_enough}
 use Rattle.mk_exact.proofs.ExistBounds.{cash_fits, least_cash_fits}
 use Rattle.mk_states.proofs.Sums.{each_weaker}
 use Rattle.mk_exact.proofs.ExistMarkets.{price_exists}
@@ -178,19 +180,19 @@ counted_at_most test a n =
     omega (arith, count_by-le-length test (range_with_len a n), length-range_with_len a n)
 
 -- payments of a bounded history have texts
-payments_have : (network : List Variable) (H : List Entry) (b : ℕ) (s : List ℕ)
-    → ((u low high : ℕ) (covers : CoversCash (IsSmall network H) (HoldsNoTrade H u) (factor H u s) b
-    low high) → high < 2 ^ 63)
+payments_have : (network : List Variable) (H : List Entry) (m b : ℕ) (s : List ℕ)
+    → ((u low high : ℕ) (covers : CoversCash (IsSmall network H) (HoldsNoTrade H u) (sharpness m)
+    (factor H u s) b low high) → high < 2 ^ 63)
     → (n : ℕ) (names : List (List ℕ)) (payments : List Payment) → AllByRecursion IsName names
-    → AllZip (IsPayment network H b s) (enumerate_from n names) payments
+    → AllZip (IsPayment network H m b s) (enumerate_from n names) payments
     → AllByRecursion HasText payments
-payments_have network H b s fits n [] [] named paid = tt
-payments_have network H b s fits n [] (payment ∷ payments) named paid = absurd paid
-payments_have network H b s fits n (name ∷ names) [] named paid = absurd paid
-payments_have network H b s fits n (name ∷ names) (payment ∷ payments) named paid =
+payments_have network H m b s fits n [] [] named paid = tt
+payments_have network H m b s fits n [] (payment ∷ payments) named paid = absurd paid
+payments_have network H m b s fits n (name ∷ names) [] named paid = absurd paid
+payments_have network H m b s fits n (name ∷ names) (payment ∷ payments) named paid =
     let high : payment.high < 2 ^ 63 = fits n payment.low payment.high paid.0.covers in (
       record { user = subst IsName (sym paid.0.name) named.0; low = omega (arith, paid.0.covers.above, paid.0.covers.below); high = high; paid = paid.0.low_end },
-      payments_have network H b s fits (n + 1) names payments named.1 paid.1,
+      payments_have network H m b s fits (n + 1) names payments named.1 paid.1,
     )
 
 -- a reply that is known
@@ -408,20 +410,20 @@ module _ (market : Market) (now : Standing) (is_market : IsMarket market) (ready
       (current_bounds_right market H u spread intervals (last_quote now.quotes u) (ready.quotes_right u) e) outside
 
   withdrawal_has : (u : List ℕ) (bits g : ℕ) (reply : Reply) → IsName u → IsShort bits
-      → IsWithdrawal (IsSmall network H) (HoldsNoTrade H (user_number H u))
+      → IsWithdrawal (IsSmall network H) (HoldsNoTrade H (user_number H u)) (sharpness market.max_trades)
       (factor_with H (user_number H u) g) u bits (revision H + 1) reply → IsReply reply
   withdrawal_has u bits g reply named short (inl taken) = reply_has reply _ taken.1 (named, omega (arith, short), next)
   withdrawal_has u bits g reply named short (inr less) = reply_has reply _ less.printed (omega (arith, short, less.less))
 
-  settlement_has : (reply : Reply) → length (users H) ≤ max_payments → IsSettlement network H market.points_per_bit reply → IsReply reply
+  settlement_has : (reply : Reply) → length (users H) ≤ max_payments → IsSettlement network H market.max_trades market.points_per_bit reply → IsReply reply
   settlement_has reply listed settlement =
       let each : AllByRecursion HasText settlement.payments = payments_have network H
-      market.points_per_bit settlement.state
-      (λ u low high covers. cash_fits (IsSmall network H) (HoldsNoTrade H u) H u settlement.state
+      market.max_trades market.points_per_bit settlement.state
+      (λ u low high covers. cash_fits (IsSmall network H) (HoldsNoTrade H u) H market.max_trades u settlement.state
       market.points_per_bit low high bounded.within is_market.few_points covers) 0 (users H)
       settlement.payments bounded.users_named settlement.paid in
       let many : length settlement.payments ≡ length (users H) = AllZip-long
-      (IsPayment network H market.points_per_bit settlement.state) (enumerate_from 0 (users H))
+      (IsPayment network H market.max_trades market.points_per_bit settlement.state) (enumerate_from 0 (users H))
       settlement.payments settlement.paid ∙ length-enumerate_from 0 (users H) in
       reply_has reply _ settlement.printed (next, record { few = omega (arith, listed); each = All-from_recursion HasText settlement.payments each })
 
@@ -443,7 +445,8 @@ module _ (market : Market) (now : Standing) (is_market : IsMarket market) (ready
   answer_has (Price q) reply text none h =
       let refused = none_applies (refusals market H (Price q)) none in
       let price = value_of _ (question_named network q) h in
-      let exact = price_exists network H price.0 is_market.network ready.stands.proper
+      let exact = price_exists network H (sharpness market.max_trades) price.0
+      (sharp_enough market.max_trades) is_market.network ready.stands.proper
       (can_be_asked network H q price.0 ready.stands.proper price.1 refused.1.0 refused.1.1.0 refused.1.1.1.0 refused.1.1.1.1.1.1.0) in
       reply_has reply _ price.2.printed (
         low_at_most_one (exact_price network H price.0) price.2.low
@@ -467,6 +470,7 @@ module _ (market : Market) (now : Standing) (is_market : IsMarket market) (ready
   answer_has (Worst u) reply text none h =
       let least = value_of _ (least_gain network H (user_number H u) always) h in
       let high = least_cash_fits (IsSmall network H) (HoldsNoTrade H (user_number H u)) network H
+      market.max_trades
       (user_number H u) always least.0 market.points_per_bit least.2.low least.2.high
       bounded.within is_market.few_points least.1 least.2.covers in
       reply_has reply _ least.2.printed (omega (arith, high, least.2.covers.above, least.2.covers.below), high)
@@ -484,14 +488,14 @@ module _ (market : Market) (now : Standing) (is_market : IsMarket market) (ready
       let prices = value_of _ (spread_named network v condition.items) h in
       let told = can_be_told network H v condition.items prices.0 ready.stands.proper prices.1
       refused.1.1.1.0 refused.1.1.1.1.0 refused.1.1.1.1.1.1.1.0 in
-      let fit = prices_fit network H prices.0 prices.2.intervals.items is_market.network
+      let fit = prices_fit network H market.max_trades prices.0 prices.2.intervals.items is_market.network
       ready.stands.proper told prices.2.covers in
       reply_has reply _ prices.2.printed
       (record { two = fit.0.two; few = fit.0.few; each = fit.1 })
   answer_has (Position u v condition) reply text none h =
       let found = value_of _ (spread_named network v condition.items) h in
       let within = (spread_is network v condition.items found.0 found.1).variable in
-      let fit = position_fits network H (user_number H u) market.points_per_bit found.0
+      let fit = position_fits network H market.max_trades (user_number H u) market.points_per_bit found.0
       found.2.intervals.items is_market.network within bounded.within is_market.few_points
       found.2.covers in
       let each : All AreEnds found.2.intervals.items =

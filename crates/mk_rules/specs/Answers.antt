@@ -3,7 +3,7 @@ use Rattle.std.specs.Prelude.{◌≡◌, ℕ, ◌+◌, ◌<◌, List, [], ◌∷
 use Rattle.std.specs.List.{AllZip, enumerate_from}
 use Rattle.mk_net.specs.declared.words.PairText.{PairText}
 use Rattle.mk_net.specs.declared.words.QuestionText.{QuestionText}
-use Rattle.mk_net.specs.Bounds.{max_payments}
+use Rattle.mk_net.specs.Bounds.{max_payments, sharpness}
 use Rattle.mk_net.specs.Network.{Variable}
 use Rattle.mk_net.specs.Named.{pair_named}
 use Rattle.mk_net.specs.Asked.{Asked}
@@ -93,23 +93,25 @@ abbrev pub IsSpreadJudgedAfresh : List Variable → List Entry → ℕ → Sprea
 IsSpreadJudgedAfresh network H u spread Xs reply = IsSpreadTrade network H u spread Xs reply ⊎ IsOutsideRight network H u spread Xs reply
 
 -- a withdrawal that is too much, with the bits that may be taken out
-pub record IsShort (small idle : Type 0) (q : Fraction) (bits : ℕ) (reply : Reply) : Type 0 where
+pub record IsShort (small idle : Type 0) (near : ℕ) (q : Fraction) (bits : ℕ) (reply : Reply) : Type 0 where
   pub most : ℕ
   pub less : most < bits
-  pub is_most : IsMost small idle q most
+  pub is_most : IsMost small idle near q most
   pub printed : reply ≡ Refused (Short most)
 
 -- a withdrawal that the factor covers, or one that is too much
-abbrev pub IsWithdrawal : Type 0 → Type 0 → Fraction → List ℕ → ℕ → ℕ → Reply → Type 0
-IsWithdrawal small idle q u bits at reply = (Covers q bits × (reply ≡ Withdrawn u bits at)) ⊎
-    IsShort small idle q bits reply
+abbrev pub IsWithdrawal : Type 0 → Type 0 → ℕ → Fraction → List ℕ → ℕ → ℕ → Reply → Type 0
+IsWithdrawal small idle near q u bits at reply = (Covers q bits × (reply ≡ Withdrawn u bits at)) ⊎
+    IsShort small idle near q bits reply
 
 -- an interval that covers the exact price
-pub record IsPrice (network : List Variable) (H : List Entry) (asked : Asked) (reply : Reply) : Type 0 where
+pub record IsPrice (network : List Variable) (H : List Entry) (most_trades : ℕ) (asked : Asked)
+    (reply : Reply) : Type 0 where
   pub low : ℕ
   pub high : ℕ
   pub printed : reply ≡ Priced low high
-  pub covers : CoversPrice (IsSmall network H) (exact_price network H asked) low high
+  pub covers : CoversPrice (IsSmall network H) (sharpness most_trades) (exact_price network H asked)
+      low high
 
 -- right limits
 pub record IsLimits (network : List Variable) (H : List Entry) (u : ℕ) (asked : Asked) (reply : Reply) : Type 0 where
@@ -124,28 +126,29 @@ pub record IsBounds (network : List Variable) (H : List Entry) (u : ℕ) (spread
   pub right : AreRightBoundsOf network H u spread (given_in box)
 
 -- an interval that covers the cash of a factor
-pub record IsWorst (small idle : Type 0) (q : Fraction) (points_per_bit : ℕ) (reply : Reply) : Type
-    0 where
+pub record IsWorst (small idle : Type 0) (near : ℕ) (q : Fraction) (points_per_bit : ℕ)
+    (reply : Reply) : Type 0 where
   pub low : ℕ
   pub high : ℕ
   pub printed : reply ≡ Worsted low high
-  pub covers : CoversCash small idle q points_per_bit low high
+  pub covers : CoversCash small idle near q points_per_bit low high
 
 -- a user's payment in the one possible state: the low end of an interval that covers the cash
-pub record IsPayment (network : List Variable) (H : List Entry) (points_per_bit : ℕ) (s : List ℕ)
-    (user : ℕ × List ℕ) (payment : Payment) : Type 0 where
+pub record IsPayment (network : List Variable) (H : List Entry) (most_trades points_per_bit : ℕ)
+    (s : List ℕ) (user : ℕ × List ℕ) (payment : Payment) : Type 0 where
   pub name : payment.user ≡ user.1
-  pub covers : CoversCash (IsSmall network H) (HoldsNoTrade H (user.0)) (factor H (user.0) s)
-      points_per_bit payment.low payment.high
+  pub covers : CoversCash (IsSmall network H) (HoldsNoTrade H (user.0)) (sharpness most_trades)
+      (factor H (user.0) s) points_per_bit payment.low payment.high
   pub low_end : payment.paid ≡ payment.low
 
 -- one payment for each user, in the order of joining
-pub record IsSettlement (network : List Variable) (H : List Entry) (points_per_bit : ℕ) (reply : Reply) : Type 0 where
+pub record IsSettlement (network : List Variable) (H : List Entry) (most_trades points_per_bit : ℕ)
+    (reply : Reply) : Type 0 where
   pub state : List ℕ
   pub one_state : possible_states network H always ≡ state ∷ []
   pub payments : List Payment
   pub printed : reply ≡ Settled (revision H + 1) payments
-  pub paid : AllZip (IsPayment network H points_per_bit state) (enumerate_from 0 (users H)) payments
+  pub paid : AllZip (IsPayment network H most_trades points_per_bit state) (enumerate_from 0 (users H)) payments
 
 -- a settlement that lists no payments: they are those by rule, and it tells how many users there are and what all are paid
 abbrev pub settled_by_rule : Market → List Entry → Reply
@@ -154,7 +157,7 @@ settled_by_rule market H =
 
 -- a settlement lists its payments, but for more users than it may list
 pub record IsSettling (market : Market) (H : List Entry) (reply : Reply) : Type 0 where
-  pub listed : length (users H) ≤ max_payments → IsSettlement market.network H market.points_per_bit reply
+  pub listed : length (users H) ≤ max_payments → IsSettlement market.network H market.max_trades market.points_per_bit reply
   pub summed : max_payments < length (users H) → reply ≡ settled_by_rule market H
 
 -- the two ends of a payment that is told
@@ -180,11 +183,11 @@ IsAnswer market H quotes (Withdraw u bits) reply =
     let network = market.network in
     let n = user_number H u in
     IsSomeAnd (least_gain network H n always)
-    (λ g. IsWithdrawal (IsSmall network H) (HoldsNoTrade H n) (factor_with H n g) u bits
-    (revision H + 1) reply)
+    (λ g. IsWithdrawal (IsSmall network H) (HoldsNoTrade H n) (sharpness market.max_trades)
+    (factor_with H n g) u bits (revision H + 1) reply)
 IsAnswer market H quotes (Price q) reply =
     let network = market.network in
-    IsSomeAnd (question_named network q) (λ asked. IsPrice network H asked reply)
+    IsSomeAnd (question_named network q) (λ asked. IsPrice network H market.max_trades asked reply)
 IsAnswer market H quotes (Limits u q) reply =
     let network = market.network in
     IsSomeAnd (question_named network q) (λ asked. IsLimits network H (user_number H u) asked reply)
@@ -205,19 +208,20 @@ IsAnswer market H quotes (Worst u) reply =
     let network = market.network in
     let n = user_number H u in
     IsSomeAnd (least_gain network H n always)
-    (λ g. IsWorst (IsSmall network H) (HoldsNoTrade H n) (factor_with H n g)
-    market.points_per_bit reply)
+    (λ g. IsWorst (IsSmall network H) (HoldsNoTrade H n) (sharpness market.max_trades)
+    (factor_with H n g) market.points_per_bit reply)
 IsAnswer market H quotes (Resolve p) reply = reply ≡ Resolved p (revision H + 1)
 IsAnswer market H quotes (Paid u) reply = reply ≡ PaidOut (told_payment u (payment_to H (user_number H u)))
 IsAnswer market H quotes Settle reply = IsSettling market H reply
 IsAnswer market H quotes Bound reply = IsBound market.network H market.points_per_bit reply
 IsAnswer market H quotes (Prices v condition) reply =
     let network = market.network in
-    IsSomeAnd (spread_named network v condition.items) (λ spread. ArePrices network H spread reply)
+    IsSomeAnd (spread_named network v condition.items) (λ spread. ArePrices network H market.max_trades spread reply)
 IsAnswer market H quotes (Position u v condition) reply =
     let network = market.network in
     IsSomeAnd (spread_named network v condition.items)
-    (λ spread. IsPosition network H (user_number H u) market.points_per_bit spread reply)
+    (λ spread. IsPosition network H market.max_trades (user_number H u) market.points_per_bit spread
+    reply)
 IsAnswer market H quotes Status reply = reply ≡ status_of market H
 IsAnswer market H quotes (Add add) reply =
     (IsAddText add × (reply ≡ Added add.variable (revision H + 1))) ⊎ (reply ≡ Refused Memory)

@@ -13,18 +13,18 @@ use Rattle.mk_reply.specs.declared.reply.Reply.TheVariants.{Prices, Position, St
 use Rattle.mk_rules.specs.Refusals.{is_resolved}
 
 -- for each value of a variable, an interval that covers its exact price
-pub record ArePrices (network : List Variable) (H : List Entry) (spread : SpreadAsked)
-    (reply : Reply) : Type 0 where
+pub record ArePrices (network : List Variable) (H : List Entry) (most_trades : ℕ)
+    (spread : SpreadAsked) (reply : Reply) : Type 0 where
   pub intervals : ArrayVec (ℕ × ℕ)
   pub printed : reply ≡ Prices intervals
-  pub covers : ArePricesOf network H spread intervals.items
+  pub covers : ArePricesOf network H most_trades spread intervals.items
 
 -- for each value of a variable, an interval that covers what a user is paid at least where it comes
-pub record IsPosition (network : List Variable) (H : List Entry) (u points_per_bit : ℕ)
+pub record IsPosition (network : List Variable) (H : List Entry) (most_trades u points_per_bit : ℕ)
     (spread : SpreadAsked) (reply : Reply) : Type 0 where
   pub intervals : ArrayVec (Option (ℕ × ℕ))
   pub printed : reply ≡ Position intervals
-  pub covers : IsPositionOf network H u points_per_bit spread intervals.items
+  pub covers : IsPositionOf network H most_trades u points_per_bit spread intervals.items
 
 -- how many variables no resolution gave a value
 abbrev pub open_count : List Variable → List Entry → ℕ

@@ -9,7 +9,7 @@ use Rattle.std.specs.List.{AllZip, AllByRecursion, range_with_len}
 use Rattle.std.proofs.lemmas.Bool.{cases_lt}
 use Rattle.std.proofs.lemmas.List.Elements.{All-from_recursion}
 use Rattle.std.proofs.lemmas.List.Sums.{sum_by-cons}
-use Rattle.mk_net.specs.Bounds.{million}
+use Rattle.mk_net.specs.Bounds.{million, sharpness}
 use Rattle.mk_net.specs.Network.{Variable, IsNetwork, sizes}
 use Rattle.mk_states.specs.States.{plus_over}
 use Rattle.mk_states.specs.Events.{holds, with_target}
@@ -20,6 +20,7 @@ use Rattle.mk_exact.specs.Prices.{exact_price}
 use Rattle.mk_exact.specs.Sound.{IsSound}
 use Rattle.mk_exact.specs.Proper.{IsProper}
 use Rattle.mk_exact.specs.Existing.{IsPortion, CanBeAsked, IsSafeFactor, IsWithinBounds}
+use Rattle.mk_exact.proofs.Sharp.{sharp_enough}
 use Rattle.mk_exact.proofs.ExistNumbers.{cash_is_covered, cash_in}
 use Rattle.mk_exact.proofs.ExistMarkets.{total_positive, price_exists, least_where}
 use Rattle.mk_exact.proofs.ExistBounds.{least_cash_fits}
@@ -96,7 +97,7 @@ weaker_zip P Q f [] (x ∷ xs) h = absurd h
 weaker_zip P Q f (k ∷ ks) [] h = absurd h
 weaker_zip P Q f (k ∷ ks) (x ∷ xs) h = (f k x h.0, weaker_zip P Q f ks xs h.1)
 
-module _ (network : List Variable) (H : List Entry) (spread : SpreadAsked) where
+module _ (network : List Variable) (H : List Entry) (most_trades : ℕ) (spread : SpreadAsked) where
   abbrev values : ℕ
   values = slice_index (sizes network) spread.variable
 
@@ -120,43 +121,45 @@ module _ (network : List Variable) (H : List Entry) (spread : SpreadAsked) where
   }
 
   pub prices_exist : IsNetwork network → IsProper network H → CanBeTold network H spread →
-      (intervals : List (ℕ × ℕ)) × ArePricesOf network H spread intervals
+      (intervals : List (ℕ × ℕ)) × ArePricesOf network H most_trades spread intervals
   prices_exist net proper told = listed
-      (range_of (CoversValue network H spread) Anything values 0
+      (range_of (CoversValue network H most_trades spread) Anything values 0
       (λ k p q. value k (omega arith)))
     where
-      value : (k : ℕ) → k < values → (ends : ℕ × ℕ) × CoversValue network H spread k ends × ⊤
+      value : (k : ℕ) → k < values → (ends : ℕ × ℕ) × CoversValue network H most_trades spread k ends × ⊤
       value k below =
           let asked = can_ask told k below in
-          let price = price_exists network H (asked_of spread k) net proper asked in
+          let price = price_exists network H (sharpness most_trades) (asked_of spread k)
+          (sharp_enough most_trades) net proper asked in
           ((price.low, price.high), price.covers, tt)
 
       listed :
-          (xs : List (ℕ × ℕ)) × ArePricesOf network H spread xs × AllByRecursion Anything xs
-          → (intervals : List (ℕ × ℕ)) × ArePricesOf network H spread intervals
+          (xs : List (ℕ × ℕ)) × ArePricesOf network H most_trades spread xs × AllByRecursion Anything xs
+          → (intervals : List (ℕ × ℕ)) × ArePricesOf network H most_trades spread intervals
       listed l = (l.0, l.1)
 
   pub prices_fit : (intervals : List (ℕ × ℕ)) → IsNetwork network → IsProper network H →
-      CanBeTold network H spread → ArePricesOf network H spread intervals →
+      CanBeTold network H spread → ArePricesOf network H most_trades spread intervals →
       AreOfValues intervals × All AreUnits intervals
   prices_fit intervals net proper told prices = (
     of_values network net spread intervals told.in_order.in_range.variable
-        (ranged_length (CoversValue network H spread) values 0 intervals prices),
+        (ranged_length (CoversValue network H most_trades spread) values 0 intervals prices),
     All-from_recursion AreUnits intervals
-        (each_of (CoversValue network H spread) AreUnits values 0 intervals
+        (each_of (CoversValue network H most_trades spread) AreUnits values 0 intervals
         (λ k ends p q. units k ends (omega arith)) prices),
   )
     where
       units : (k : ℕ) (ends : ℕ × ℕ) → k < values →
-          CoversValue network H spread k ends → AreUnits ends
+          CoversValue network H most_trades spread k ends → AreUnits ends
       units k ends below covers =
           let asked = can_ask told k below in
-          let price = price_exists network H (asked_of spread k) net proper asked in
+          let price = price_exists network H (sharpness most_trades) (asked_of spread k)
+          (sharp_enough most_trades) net proper asked in
           let exact = exact_price network H (asked_of spread k) in
           (low_at_most_one exact (ends.0) price.exact covers.below, covers.at_most_one)
 
   pub prices_make_one : (intervals : List (ℕ × ℕ)) → IsNetwork network → IsProper network H →
-      CanBeTold network H spread → ArePricesOf network H spread intervals → MakeOne intervals
+      CanBeTold network H spread → ArePricesOf network H most_trades spread intervals → MakeOne intervals
   prices_make_one intervals net proper told prices = record {
     low = cancelled (sum_by (λ (ends : ℕ × ℕ). ends.0) intervals) (10 ^ 10) whole some lows;
     high = cancelled (10 ^ 10) (sum_by (λ (ends : ℕ × ℕ). ends.1) intervals) whole some highs;
@@ -170,7 +173,7 @@ module _ (network : List Variable) (H : List Entry) (spread : SpreadAsked) where
 
       lows : sum_by (λ (ends : ℕ × ℕ). ends.0) intervals * whole ≤ 10 ^ 10 * whole
       lows =
-          let each = weaker_zip (CoversValue network H spread)
+          let each = weaker_zip (CoversValue network H most_trades spread)
           (λ k (ends : ℕ × ℕ). ends.0 * whole ≤ 10 ^ 10 * part_of network H spread k)
           (λ k ends covers. covers.below) (range_with_len 0 values) intervals prices in
           let sums = low_sum (part_of network H spread) (10 ^ 10) (whole) values 0 intervals each in
@@ -178,14 +181,14 @@ module _ (network : List Variable) (H : List Entry) (spread : SpreadAsked) where
 
       highs : 10 ^ 10 * whole ≤ sum_by (λ (ends : ℕ × ℕ). ends.1) intervals * whole
       highs =
-          let each = weaker_zip (CoversValue network H spread)
+          let each = weaker_zip (CoversValue network H most_trades spread)
           (λ k (ends : ℕ × ℕ). 10 ^ 10 * part_of network H spread k ≤ ends.1 * whole)
           (λ k ends covers. covers.above) (range_with_len 0 values) intervals prices in
           let parts_of = part_of network H spread in
           let sums = high_sum parts_of (10 ^ 10) whole values 0 intervals each in
           rw (← parts) at sums
 
-module _ (network : List Variable) (H : List Entry) (u b : ℕ) (spread : SpreadAsked) where
+module _ (network : List Variable) (H : List Entry) (most_trades u b : ℕ) (spread : SpreadAsked) where
   abbrev size : ℕ
   size = slice_index (sizes network) spread.variable
 
@@ -193,10 +196,10 @@ module _ (network : List Variable) (H : List Entry) (u b : ℕ) (spread : Spread
   comes k = with_target (asked_of spread k)
 
   abbrev IsSure : ℕ → Option (ℕ × ℕ) → Type 0
-  IsSure = IsSureOf network H u b spread
+  IsSure = IsSureOf network H most_trades u b spread
 
   abbrev IsPosition : List (Option (ℕ × ℕ)) → Type 0
-  IsPosition = IsPositionOf network H u b spread
+  IsPosition = IsPositionOf network H most_trades u b spread
 
   abbrev HasSure : ℕ → Type 0
   HasSure k = (interval : Option (ℕ × ℕ)) × IsSure k interval × Anything interval
@@ -208,9 +211,10 @@ module _ (network : List Variable) (H : List Entry) (u b : ℕ) (spread : Spread
       covered : (g : ℕ) → least_gain network H u (comes k) ≡ Some g →
           IsSafeFactor (factor_with H u g) → HasSure k
       covered g e safe =
-          let cash = cash_is_covered (factor_with H u g) b safe in (
+          let cash = cash_is_covered (sharpness most_trades) (factor_with H u g) b
+          (sharp_enough most_trades) safe in (
             Some (cash.0, cash.1),
-            rw e (cash_in (IsSmall network H) (HoldsNoTrade H u)
+            rw e (cash_in (IsSmall network H) (HoldsNoTrade H u) (sharpness most_trades)
                 (factor_with H u g) b cash.0 cash.1 cash.2),
             tt,
           )
@@ -241,11 +245,11 @@ module _ (network : List Variable) (H : List Entry) (u b : ℕ) (spread : Spread
   )
     where
       fits : (k low high : ℕ) (o : Option ℕ) → least_gain network H u (comes k) ≡ o →
-          CoversLeast network H u b (comes k) (low, high) → AreNumbers (Some (low, high))
+          CoversLeast network H most_trades u b (comes k) (low, high) → AreNumbers (Some (low, high))
       fits k low high None e covers = absurd (rw e at covers)
       fits k low high (Some g) e covers =
           let cash = rw e at covers in
-          let most = least_cash_fits (IsSmall network H) (HoldsNoTrade H u) network H u (comes k) g
+          let most = least_cash_fits (IsSmall network H) (HoldsNoTrade H u) network H most_trades u (comes k) g
           b low high bounds few e cash in
           (omega (arith, most, cash.above, cash.below), most)
 

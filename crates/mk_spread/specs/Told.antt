@@ -3,7 +3,7 @@
 use Rattle.std.specs.Prelude.{◌≡◌, ℕ, ◌<◌, ◌≤◌, ◌^◌, List, length, Bool, All}
 use Rattle.std.specs.Prelude.{Option, None, IfSome, IsSomeAnd, MatchOption, sum_by}
 use Rattle.std.specs.List.{AllZip}
-use Rattle.mk_net.specs.Bounds.{million, number_limit}
+use Rattle.mk_net.specs.Bounds.{million, number_limit, sharpness}
 use Rattle.mk_net.specs.Network.{Variable, IsNetwork}
 use Rattle.mk_states.specs.Events.{holds, with_target}
 use Rattle.mk_exact.specs.History.{Entry}
@@ -23,49 +23,50 @@ pub record CanBeTold (network : List Variable) (H : List Entry) (asked : SpreadA
   pub in_order : IsSpreadInOrder network H asked
   pub some_state : 1 ≤ length (possible_states network H (holds asked.condition))
 
--- two ends cover the exact price of a value
-abbrev pub CoversValue : List Variable → List Entry → SpreadAsked → ℕ → ℕ × ℕ → Type 0
-CoversValue network H spread value ends =
-    CoversPrice (IsSmall network H) (exact_price network H (asked_of spread value)) ends.0 ends.1
+-- two ends cover the exact price of a value, in a market of so many trades
+abbrev pub CoversValue : List Variable → List Entry → ℕ → SpreadAsked → ℕ → ℕ × ℕ → Type 0
+CoversValue network H most_trades spread value ends =
+    CoversPrice (IsSmall network H) (sharpness most_trades)
+    (exact_price network H (asked_of spread value)) ends.0 ends.1
 
 -- for each value of the variable, in order
-abbrev pub ArePricesOf : List Variable → List Entry → SpreadAsked → List (ℕ × ℕ) → Type 0
-ArePricesOf network H spread intervals =
-    AllZip (CoversValue network H spread) (values_of network spread) intervals
+abbrev pub ArePricesOf : List Variable → List Entry → ℕ → SpreadAsked → List (ℕ × ℕ) → Type 0
+ArePricesOf network H most_trades spread intervals =
+    AllZip (CoversValue network H most_trades spread) (values_of network spread) intervals
 
 -- two ends cover the cash of a user's least factor over the possible states that pass a test, of
 -- which there are some
-abbrev pub CoversLeast : List Variable → List Entry → ℕ → ℕ → (List ℕ → Bool) → ℕ × ℕ → Type 0
-CoversLeast network H u points_per_bit test ends =
+abbrev pub CoversLeast : List Variable → List Entry → ℕ → ℕ → ℕ → (List ℕ → Bool) → ℕ × ℕ → Type 0
+CoversLeast network H most_trades u points_per_bit test ends =
     IsSomeAnd (least_gain network H u test)
-    (λ g. CoversCash (IsSmall network H) (HoldsNoTrade H u) (factor_with H u g) points_per_bit
-    ends.0 ends.1)
+    (λ g. CoversCash (IsSmall network H) (HoldsNoTrade H u) (sharpness most_trades)
+    (factor_with H u g) points_per_bit ends.0 ends.1)
 
 -- where a value comes: none where it cannot
 abbrev pub IsSureOf :
-    List Variable → List Entry → ℕ → ℕ → SpreadAsked → ℕ → Option (ℕ × ℕ) → Type 0
-IsSureOf network H u points_per_bit spread value interval =
+    List Variable → List Entry → ℕ → ℕ → ℕ → SpreadAsked → ℕ → Option (ℕ × ℕ) → Type 0
+IsSureOf network H most_trades u points_per_bit spread value interval =
     let comes = with_target (asked_of spread value) in
     MatchOption interval (least_gain network H u comes ≡ None)
-    (CoversLeast network H u points_per_bit comes)
+    (CoversLeast network H most_trades u points_per_bit comes)
 
 -- for each value of the variable, in order
 abbrev pub IsPositionOf :
-    List Variable → List Entry → ℕ → ℕ → SpreadAsked → List (Option (ℕ × ℕ)) → Type 0
-IsPositionOf network H u points_per_bit spread intervals =
-    AllZip (IsSureOf network H u points_per_bit spread) (values_of network spread) intervals
+    List Variable → List Entry → ℕ → ℕ → ℕ → SpreadAsked → List (Option (ℕ × ℕ)) → Type 0
+IsPositionOf network H most_trades u points_per_bit spread intervals =
+    AllZip (IsSureOf network H most_trades u points_per_bit spread) (values_of network spread) intervals
 
 -- each distribution that can be told has prices
 abbrev pub PricesExist : Type 0
-PricesExist = (network : List Variable) (H : List Entry) (spread : SpreadAsked)
+PricesExist = (network : List Variable) (H : List Entry) (most_trades : ℕ) (spread : SpreadAsked)
     → IsNetwork network → IsProper network H → CanBeTold network H spread
-    → (intervals : List (ℕ × ℕ)) × ArePricesOf network H spread intervals
+    → (intervals : List (ℕ × ℕ)) × ArePricesOf network H most_trades spread intervals
 
 -- and in a sound market each user has a position in every one
 abbrev pub PositionExists : Type 0
-PositionExists = (network : List Variable) (H : List Entry) (u b : ℕ) (spread : SpreadAsked)
+PositionExists = (network : List Variable) (H : List Entry) (most_trades u b : ℕ) (spread : SpreadAsked)
     → IsSound network H
-    → (intervals : List (Option (ℕ × ℕ))) × IsPositionOf network H u b spread intervals
+    → (intervals : List (Option (ℕ × ℕ))) × IsPositionOf network H most_trades u b spread intervals
 
 -- ends of prices
 abbrev pub AreUnits : ℕ × ℕ → Type 0
@@ -73,10 +74,10 @@ AreUnits ends = (ends.0 ≤ 10 ^ 10) × (ends.1 ≤ 10 ^ 10)
 
 -- prices are 2 to 16 intervals within 0 to one
 abbrev pub PricesFit : Type 0
-PricesFit = (network : List Variable) (H : List Entry) (spread : SpreadAsked)
+PricesFit = (network : List Variable) (H : List Entry) (most_trades : ℕ) (spread : SpreadAsked)
     (intervals : List (ℕ × ℕ))
     → IsNetwork network → IsProper network H → CanBeTold network H spread
-    → ArePricesOf network H spread intervals
+    → ArePricesOf network H most_trades spread intervals
     → AreOfValues intervals × All AreUnits intervals
 
 -- two numbers that fit, or none
@@ -86,10 +87,10 @@ AreNumbers interval = IfSome interval (λ ends. (ends.0 < number_limit) × (ends
 -- within the bounds a position is 2 to 16 intervals whose ends fit, at up to a million points per
 -- bit
 abbrev pub PositionFits : Type 0
-PositionFits = (network : List Variable) (H : List Entry) (u b : ℕ) (spread : SpreadAsked)
+PositionFits = (network : List Variable) (H : List Entry) (most_trades u b : ℕ) (spread : SpreadAsked)
     (intervals : List (Option (ℕ × ℕ)))
     → IsNetwork network → spread.variable < length network → IsWithinBounds H → b ≤ million
-    → IsPositionOf network H u b spread intervals → AreOfValues intervals × All AreNumbers intervals
+    → IsPositionOf network H most_trades u b spread intervals → AreOfValues intervals × All AreNumbers intervals
 
 -- the prices of all values are one together: so the low ends are at most that, and the high ends at
 -- least
@@ -98,8 +99,8 @@ pub record MakeOne (intervals : List (ℕ × ℕ)) : Type 0 where
   pub high : 10 ^ 10 ≤ sum_by (λ ends. ends.1) intervals
 
 abbrev pub PricesMakeOne : Type 0
-PricesMakeOne = (network : List Variable) (H : List Entry) (spread : SpreadAsked)
+PricesMakeOne = (network : List Variable) (H : List Entry) (most_trades : ℕ) (spread : SpreadAsked)
     (intervals : List (ℕ × ℕ))
     → IsNetwork network → IsProper network H → CanBeTold network H spread
-    → ArePricesOf network H spread intervals
+    → ArePricesOf network H most_trades spread intervals
     → MakeOne intervals

@@ -2,6 +2,7 @@
 use Rattle.std.proofs.Common.{◌≡◌, ℕ, ◌^◌, ◌⊎◌, ◌↔◌, inl, inr, Bool, true, false, IsTrue, refl, sym, subst, ◌∙◌, List, arith}
 use Rattle.std.proofs.lemmas.Bool.{false≢true}
 use Rattle.mk_net.specs.Asked.{Asked}
+use Rattle.mk_net.specs.Bounds.{sharpness}
 use Rattle.mk_exact.specs.History.{Entry}
 use Rattle.mk_exact.specs.Market.{Market}
 use Rattle.mk_exact.specs.Weight.{IsSmall}
@@ -26,21 +27,21 @@ use Rattle.mk_verify.proofs.Verdicts.{judges_by}
 
 -- ---- prices
 
--- what the judge of a price says
-pub record JudgesPrice (j : Judged) (bounds : PriceBounds) (small : Bool) (low high : ℕ) : Type 0
-  where
-    pub allowed : j ≡ Allowed → (price : Fraction) → ArePriceBounds bounds small price
-        → CoversPrice (IsTrue small) price low high
-    pub wrong : j ≡ Wrong → (price : Fraction) → ArePriceBounds bounds small price
-        → CoversPrice (IsTrue small) price low high → ⊥
-    pub unclear : j ≡ Unclear → (price : Fraction) → ArePriceBounds bounds small price
-        → IsPriceNear bounds price low high
-    pub clear : j ≡ Unclear → (price : Fraction) → ArePriceBounds bounds small price
-        → small ≡ false
+-- what the judge of a price says in a market of at most so many trades
+pub record JudgesPrice (j : Judged) (bounds : PriceBounds) (small : Bool)
+    (most_trades low high : ℕ) : Type 0 where
+  pub allowed : j ≡ Allowed → (price : Fraction) → ArePriceBounds bounds small price
+      → CoversPrice (IsTrue small) (sharpness most_trades) price low high
+  pub wrong : j ≡ Wrong → (price : Fraction) → ArePriceBounds bounds small price
+      → CoversPrice (IsTrue small) (sharpness most_trades) price low high → ⊥
+  pub unclear : j ≡ Unclear → (price : Fraction) → ArePriceBounds bounds small price
+      → IsPriceNear (sharpness most_trades) bounds price low high
+  pub clear : j ≡ Unclear → (price : Fraction) → ArePriceBounds bounds small price
+      → small ≡ false
 
-price_for : (small large : Type 0) (price : Fraction) (low high : ℕ) → (large → small)
-    → CoversPrice small price low high → CoversPrice large price low high
-price_for small large price low high to h = record {
+price_for : (small large : Type 0) (near : ℕ) (price : Fraction) (low high : ℕ) → (large → small)
+    → CoversPrice small near price low high → CoversPrice large near price low high
+price_for small large near price low high to h = record {
   below = h.below;
   above = h.above;
   at_most_one = h.at_most_one;
@@ -57,38 +58,44 @@ pub not_small : (small : Bool) (S : Type 0) → ((small ≡ true) ↔ S) → sma
 not_small small S tells large is = false≢true (sym large ∙ tells.1 is)
 
 pub price_judged : (market : Market) (H : List Entry) (asked : Asked) (bounds : PriceBounds)
-    (small : Bool) (low high : ℕ) (j : Judged) → ((small ≡ true) ↔ IsSmall market.network H)
+    (small : Bool) (most_trades low high : ℕ) (j : Judged)
+    → ((small ≡ true) ↔ IsSmall market.network H)
     → AreBoundsOfPrice (evidence_grade market H) market.network H asked bounds
-    → JudgesPrice j bounds small low high
+    → most_trades ≡ market.max_trades → JudgesPrice j bounds small most_trades low high
     → Judges j
-    (CoversPrice (IsSmall market.network H) (exact_price market.network H asked) low
-    high) (IsPriceOpen market H asked (low, high))
-price_judged market H asked bounds small low high j tells evidence says =
+    (CoversPrice (IsSmall market.network H) (sharpness market.max_trades)
+    (exact_price market.network H asked) low high) (IsPriceOpen market H asked (low, high))
+price_judged market H asked bounds small most_trades low high j tells evidence trades says =
     let price = exact_price market.network H asked in
+    let near = sharpness market.max_trades in
+    let said : JudgesPrice j bounds small market.max_trades low high =
+    subst (λ (n : ℕ). JudgesPrice j bounds small n low high) trades says in
     let its = evidence.bounds_of small tells.0 in
     judges_by j _ _
-    (λ e. price_for (IsTrue small) _ price low high tells.1 (says.allowed e price its))
-    (λ e h. says.wrong e price its (price_for _ (IsTrue small) price low high tells.0 h))
+    (λ e. price_for (IsTrue small) _ near price low high tells.1 (said.allowed e price its))
+    (λ e h. said.wrong e price its (price_for _ (IsTrue small) near price low high tells.0 h))
     (λ e. record {
-      large = not_small small _ tells (says.clear e price its);
-      near = price_nearer bounds price low high (evidence_grade market H) (near_steps market H)
-          (omega (arith, grade_room market H))
-          evidence.graded (says.unclear e price its);
+      large = not_small small _ tells (said.clear e price its);
+      near = price_nearer near bounds price low high (evidence_grade market H)
+          (near_steps market H) (omega (arith, grade_room market H))
+          evidence.graded (said.unclear e price its);
     })
 
 -- ---- cash
 
-pub record JudgesCash (j : Judged) (factor : Factor) (small : Bool) (b low high : ℕ) : Type 0 where
+pub record JudgesCash (j : Judged) (factor : Factor) (small : Bool)
+    (most_trades b low high : ℕ) : Type 0 where
   pub allowed : j ≡ Allowed → (q : Fraction) → IsOwned factor q
-      → CoversCash (IsTrue small) (factor.trades ≡ 0) q b low high
+      → CoversCash (IsTrue small) (factor.trades ≡ 0) (sharpness most_trades) q b low high
   pub wrong : j ≡ Wrong → (q : Fraction) → IsOwned factor q
-      → CoversCash (IsTrue small) (factor.trades ≡ 0) q b low high → ⊥
+      → CoversCash (IsTrue small) (factor.trades ≡ 0) (sharpness most_trades) q b low high → ⊥
   pub unclear : j ≡ Unclear → (q : Fraction) → IsOwned factor q
-      → IsCashNear small factor q b low high
+      → IsCashNear small most_trades factor q b low high
 
-cash_for : (small large idle alone : Type 0) (q : Fraction) (b low high : ℕ) → (large → small)
-    → (alone → idle) → CoversCash small idle q b low high → CoversCash large alone q b low high
-cash_for small large idle alone q b low high to by h = record {
+cash_for : (small large idle alone : Type 0) (near : ℕ) (q : Fraction) (b low high : ℕ)
+    → (large → small) → (alone → idle) → CoversCash small idle near q b low high
+    → CoversCash large alone near q b low high
+cash_for small large idle alone near q b low high to by h = record {
   cash = h.cash;
   is_cash = h.is_cash;
   above = h.above;
@@ -98,40 +105,46 @@ cash_for small large idle alone q b low high to by h = record {
   exact = λ i. h.exact (by i);
 }
 
-near_powers : (small : Bool) (S : Type 0) (q : Fraction) (b low high steps : ℕ)
-    → ((small ≡ true) ↔ S) → ArePowersNear (nearness small) q b low high steps
-    → ArePowersNear (2 ^ 42) q b low high steps
+near_powers : (small : Bool) (S : Type 0) (most_trades : ℕ) (q : Fraction)
+    (b low high steps : ℕ) → ((small ≡ true) ↔ S)
+    → ArePowersNear (nearness small most_trades) q b low high steps
+    → ArePowersNear (sharpness most_trades) q b low high steps
     ⊎ S × ArePowersNear (2 ^ 59) q b low high steps
-near_powers true S q b low high steps tells near = inr (tells.0 refl, near)
-near_powers false S q b low high steps tells near = inl near
+near_powers true S most_trades q b low high steps tells near = inr (tells.0 refl, near)
+near_powers false S most_trades q b low high steps tells near = inl near
 
 pub cash_judged : (market : Market) (H : List Entry) (u g : ℕ) (factor : Factor) (small : Bool)
-    (b low high : ℕ) (j : Judged) → ((small ≡ true) ↔ IsSmall market.network H)
+    (most_trades b low high : ℕ) (j : Judged) → ((small ≡ true) ↔ IsSmall market.network H)
     → IsSound market.network H → IsFactorOf (evidence_grade market H)
     market.network H u g factor
-    → b ≡ market.points_per_bit → JudgesCash j factor small b low high
+    → most_trades ≡ market.max_trades → b ≡ market.points_per_bit
+    → JudgesCash j factor small most_trades b low high
     → Judges j
-    (CoversCash (IsSmall market.network H) (HoldsNoTrade H u) (factor_with H u g)
-    market.points_per_bit low high) (IsCashOpen market H u (factor_with H u g) (low, high))
-cash_judged market H u g factor small b low high j tells sound evidence points says =
+    (CoversCash (IsSmall market.network H) (HoldsNoTrade H u) (sharpness market.max_trades)
+    (factor_with H u g) market.points_per_bit low high)
+    (IsCashOpen market H u (factor_with H u g) (low, high))
+cash_judged market H u g factor small most_trades b low high j tells sound evidence trades points
+    says =
     let q = factor_with H u g in
     let k = market.points_per_bit in
-    let said : JudgesCash j factor small k low high =
-    subst (λ (n : ℕ). JudgesCash j factor small n low high) points says in
+    let most = market.max_trades in
+    let near_part = sharpness most in
+    let said : JudgesCash j factor small most k low high =
+    subst (λ (m : ℕ). JudgesCash j factor small m k low high) trades
+    (subst (λ (n : ℕ). JudgesCash j factor small most_trades n low high) points says) in
     let its = evidence.owned sound in
     let idle : HoldsNoTrade H u → factor.trades ≡ 0 = (λ none. evidence.traded ∙ none) in
     let alone : factor.trades ≡ 0 → HoldsNoTrade H u = (λ none. sym evidence.traded ∙ none) in
     judges_by j _ _
-    (λ e. cash_for (IsTrue small) _ (factor.trades ≡ 0) _ q k low high tells.1 idle
+    (λ e. cash_for (IsTrue small) _ (factor.trades ≡ 0) _ near_part q k low high tells.1 idle
     (said.allowed e q its))
     (λ e h. said.wrong e q its
-    (cash_for _ (IsTrue small) _ (factor.trades ≡ 0) q k low high tells.0 alone h))
+    (cash_for _ (IsTrue small) _ (factor.trades ≡ 0) near_part q k low high tells.0 alone h))
     (λ e. let near = said.unclear e q its in record {
       traded = λ none. near.traded (idle none);
-      near = near_powers small _ q k low high _ tells
-          (cash_nearer small factor q k low high (evidence_grade market H) (near_steps market H)
-          (omega (arith, grade_room market H))
-          evidence.graded near);
+      near = near_powers small _ most q k low high _ tells
+          (cash_nearer small most factor q k low high (evidence_grade market H)
+          (near_steps market H) (omega (arith, grade_room market H)) evidence.graded near);
     })
 
 -- ---- bits
@@ -158,43 +171,48 @@ covered_judged market H u g factor bits j sound evidence says =
           near;
     })
 
-pub record JudgesMost (j : Judged) (factor : Factor) (small : Bool) (most : ℕ) : Type 0 where
-  pub allowed : j ≡ Allowed → (q : Fraction) → IsOwned factor q
-      → (IsTrue small → IsExact factor.gain) → IsMost (IsTrue small) (factor.trades ≡ 0) q most
-  pub wrong : j ≡ Wrong → (q : Fraction) → IsOwned factor q
-      → (IsTrue small → IsExact factor.gain) → IsMost (IsTrue small) (factor.trades ≡ 0) q most
-      → ⊥
-  pub unclear : j ≡ Unclear → (q : Fraction) → IsOwned factor q
-      → (IsTrue small → IsExact factor.gain) → AreBitsNear small factor q most
+pub record JudgesMost (j : Judged) (factor : Factor) (small : Bool) (most_trades most : ℕ) : Type 0
+  where
+    pub allowed : j ≡ Allowed → (q : Fraction) → IsOwned factor q
+        → (IsTrue small → IsExact factor.gain)
+        → IsMost (IsTrue small) (factor.trades ≡ 0) (sharpness most_trades) q most
+    pub wrong : j ≡ Wrong → (q : Fraction) → IsOwned factor q
+        → (IsTrue small → IsExact factor.gain)
+        → IsMost (IsTrue small) (factor.trades ≡ 0) (sharpness most_trades) q most → ⊥
+    pub unclear : j ≡ Unclear → (q : Fraction) → IsOwned factor q
+        → (IsTrue small → IsExact factor.gain) → AreBitsNear small most_trades factor q most
 
-most_for : (small large idle alone : Type 0) (q : Fraction) (k : ℕ) → (large → small)
-    → (alone → idle) → IsMost small idle q k → IsMost large alone q k
-most_for small large idle alone q k to by h = record {
+most_for : (small large idle alone : Type 0) (near : ℕ) (q : Fraction) (k : ℕ)
+    → (large → small) → (alone → idle) → IsMost small idle near q k → IsMost large alone near q k
+most_for small large idle alone near q k to by h = record {
   within = h.within;
   nearly = h.nearly;
   exactly = λ either. h.exactly (elim either [ inl s ↦ inl (to s) | inr i ↦ inr (by i) ]);
 }
 
 pub most_judged : (market : Market) (H : List Entry) (u g : ℕ) (factor : Factor) (small : Bool)
-    (most : ℕ) (j : Judged) → ((small ≡ true) ↔ IsSmall market.network H)
+    (most_trades most : ℕ) (j : Judged) → ((small ≡ true) ↔ IsSmall market.network H)
     → IsSound market.network H → IsFactorOf (evidence_grade market H)
     market.network H u g factor
-    → JudgesMost j factor small most
-    → Judges j (IsMost (IsSmall market.network H) (HoldsNoTrade H u) (factor_with H u g)
-    most) (IsMostOpen market H u (factor_with H u g) most)
-most_judged market H u g factor small most j tells sound evidence says =
+    → most_trades ≡ market.max_trades → JudgesMost j factor small most_trades most
+    → Judges j (IsMost (IsSmall market.network H) (HoldsNoTrade H u) (sharpness market.max_trades)
+    (factor_with H u g) most) (IsMostOpen market H u (factor_with H u g) most)
+most_judged market H u g factor small most_trades most j tells sound evidence trades says =
     let q = factor_with H u g in
+    let near_part = sharpness market.max_trades in
+    let said : JudgesMost j factor small market.max_trades most =
+    subst (λ (n : ℕ). JudgesMost j factor small n most) trades says in
     let its = evidence.owned sound in
     let exact : IsTrue small → IsExact factor.gain = (λ s. evidence.exact (tells.0 s)) in
     judges_by j _ _
-    (λ e. most_for (IsTrue small) _ (factor.trades ≡ 0) _ q most tells.1
-    (λ none. evidence.traded ∙ none) (says.allowed e q its exact))
-    (λ e h. says.wrong e q its exact (most_for _ (IsTrue small) _ (factor.trades ≡ 0) q most
+    (λ e. most_for (IsTrue small) _ (factor.trades ≡ 0) _ near_part q most tells.1
+    (λ none. evidence.traded ∙ none) (said.allowed e q its exact))
+    (λ e h. said.wrong e q its exact
+    (most_for _ (IsTrue small) _ (factor.trades ≡ 0) near_part q most
     tells.0 (λ none. sym evidence.traded ∙ none) h))
-    (λ e. let near = says.unclear e q its exact in record {
+    (λ e. let near = said.unclear e q its exact in record {
       large = not_small small _ tells near.large;
       traded = λ none. near.traded (evidence.traded ∙ none);
-      near = most_nearer small factor q most (evidence_grade market H) (near_steps market H)
-          (omega (arith, grade_room market H))
-          evidence.graded near;
+      near = most_nearer small market.max_trades factor q most (evidence_grade market H)
+          (near_steps market H) (omega (arith, grade_room market H)) evidence.graded near;
     })

@@ -6,7 +6,7 @@ use Rattle.mk_exact.specs.Factors.{Fraction}
 use Rattle.mk_exact.specs.History.{Entry}
 use Rattle.mk_exact.specs.Market.{Market}
 use Rattle.mk_exact.specs.Risk.{nearness}
-use Rattle.mk_net.specs.Bounds.{max_values, million}
+use Rattle.mk_net.specs.Bounds.{max_values, million, sharpness}
 use Rattle.mk_scaled.specs.Near.{near_more}
 use Rattle.mk_enclose.specs.declared.enclosure.Enclosure.{Enclosure}
 use Rattle.mk_enclose.specs.declared.factor.Factor.{Factor}
@@ -31,9 +31,9 @@ pub either_of : {A B C D : Type 0} → (A → C) → (B → D) → A ⊎ B → C
 either_of first second (inl a) = inl (first a)
 either_of first second (inr b) = inr (second b)
 
-pub units_nearer : (price : Fraction) (low high i j : ℕ) → i ≤ j → AreNearUnits price low high i
-    → AreNearUnits price low high j
-units_nearer price low high i j more =
+pub units_nearer : (near : ℕ) (price : Fraction) (low high i j : ℕ) → i ≤ j
+    → AreNearUnits near price low high i → AreNearUnits near price low high j
+units_nearer near price low high i j more =
     either_of (nearer _ _ i j more) (either_of (nearer _ _ i j more)
     (either_of (nearer _ _ i j more) (nearer _ _ i j more)))
 
@@ -49,22 +49,24 @@ powers_nearer near q b low high i j more =
 pub grade_room : (market : Market) (H : List Entry) → max_values ≤ evidence_grade market H
 grade_room market H = omega arith
 
-pub price_nearer : (bounds : PriceBounds) (price : Fraction) (low high most steps : ℕ)
-    → most + most + 2 ≤ steps → ArePriceGraded most bounds → IsPriceNear bounds price low high
-    → AreNearUnits price low high steps
-price_nearer Never price low high most steps room graded near = absurd near
-price_nearer Always price low high most steps room graded near = absurd near
-price_nearer (Between part whole) price low high most steps room graded near =
+pub price_nearer : (parts : ℕ) (bounds : PriceBounds) (price : Fraction)
+    (low high most steps : ℕ) → most + most + 2 ≤ steps → ArePriceGraded most bounds
+    → IsPriceNear parts bounds price low high → AreNearUnits parts price low high steps
+price_nearer parts Never price low high most steps room graded near = absurd near
+price_nearer parts Always price low high most steps room graded near = absurd near
+price_nearer parts (Between part whole) price low high most steps room graded near =
     let g = graded.0 in
     let h = graded.1 in
-    units_nearer price low high (g.grade + h.grade + 2) steps
+    units_nearer parts price low high (g.grade + h.grade + 2) steps
     (omega (arith, g.small, h.small, room)) (near g.grade h.grade g.has h.has)
 
-pub cash_nearer : (small : Bool) (factor : Factor) (q : Fraction) (b low high most steps : ℕ)
-    → most + 8 ≤ steps → IsGradedWithin factor.gain most → IsCashNear small factor q b low high
-    → ArePowersNear (cash_nearness small) q b low high (b * steps)
-cash_nearer small factor q b low high most steps room graded near =
-    powers_nearer (cash_nearness small) q b low high (b * (graded.grade + 8)) (b * steps)
+pub cash_nearer : (small : Bool) (most_trades : ℕ) (factor : Factor) (q : Fraction)
+    (b low high most steps : ℕ) → most + 8 ≤ steps → IsGradedWithin factor.gain most
+    → IsCashNear small most_trades factor q b low high
+    → ArePowersNear (cash_nearness small most_trades) q b low high (b * steps)
+cash_nearer small most_trades factor q b low high most steps room graded near =
+    powers_nearer (cash_nearness small most_trades) q b low high (b * (graded.grade + 8))
+    (b * steps)
     (mul-le-mul_left b (omega (arith, graded.small, room))) (near.near graded.grade graded.has)
 
 pub bits_nearer : (factor : Factor) (q : Fraction) (bits most steps : ℕ) → most ≤ steps
@@ -73,11 +75,13 @@ bits_nearer factor q bits most steps room graded near =
     nearer _ _ graded.grade steps (omega (arith, graded.small, room))
     (near.near graded.grade graded.has)
 
-pub most_nearer : (small : Bool) (factor : Factor) (q : Fraction) (bits most steps : ℕ)
-    → most + 1 ≤ steps → IsGradedWithin factor.gain most → AreBitsNear small factor q bits
+pub most_nearer : (small : Bool) (most_trades : ℕ) (factor : Factor) (q : Fraction)
+    (bits most steps : ℕ) → most + 1 ≤ steps → IsGradedWithin factor.gain most
+    → AreBitsNear small most_trades factor q bits
     → AreNear (2 ^ bits * q.den) q.num steps
-    ⊎ AreNear (2 ^ (bits + 1) * 2 ^ 43 * q.den) (q.num * (2 ^ 43 - 1)) steps
-most_nearer small factor q bits most steps room graded near =
+    ⊎ AreNear (2 ^ (bits + 1) * (2 * sharpness most_trades) * q.den)
+    (q.num * (2 * sharpness most_trades - 1)) steps
+most_nearer small most_trades factor q bits most steps room graded near =
     let more : graded.grade + 1 ≤ steps = omega (arith, graded.small, room) in
     either_of (nearer _ _ (graded.grade + 1) steps more) (nearer _ _ (graded.grade + 1) steps more)
     (near.near graded.grade graded.has)

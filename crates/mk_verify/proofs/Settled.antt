@@ -36,30 +36,31 @@ module _ (market : Market) (H : List Entry) where
   abbrev network : List Variable
   network = market.network
 
+  abbrev Pays : List ℕ → ℕ × List ℕ → Payment → Type 0
+  Pays state = IsPayment network H market.max_trades market.points_per_bit state
+
   abbrev named : Payment → List ℕ
   named p = p.user
 
   paid_listed : (state : List ℕ) (payments : List Payment) → map named payments ≡ users H
       → PayEach market H state payments
-      → AllZip (IsPayment network H market.points_per_bit state) (enumerate_from 0 (users H))
-      payments
+      → AllZip (Pays state) (enumerate_from 0 (users H)) payments
   paid_listed state payments names each =
-      subst (λ (us : List (List ℕ)). AllZip (IsPayment network H market.points_per_bit state)
+      subst (λ (us : List (List ℕ)). AllZip (Pays state)
       (enumerate_from 0 us) payments) names
-      (numbered_of (IsPayment network H market.points_per_bit state) named 0 payments
+      (numbered_of (Pays state) named 0 payments
       (λ k p at. let here : k ≡ 0 + k = omega arith in
-      subst (λ (u : ℕ). IsPayment network H market.points_per_bit state (u, named p) p) here
+      subst (λ (u : ℕ). Pays state (u, named p) p) here
       (let its = each k p at in
       record { name = refl; covers = its.covers; low_end = its.low_end })))
 
   paid_each : (state : List ℕ) (payments : List Payment)
-      → AllZip (IsPayment network H market.points_per_bit state) (enumerate_from 0 (users H))
-      payments → PayEach market H state payments
+      → AllZip (Pays state) (enumerate_from 0 (users H)) payments → PayEach market H state payments
   paid_each state payments listed u p at =
-      let found = numbered_at (IsPayment network H market.points_per_bit state) named 0 (users H)
+      let found = numbered_at (Pays state) named 0 (users H)
       payments listed u p at in
       let here : 0 + u ≡ u = omega arith in
-      let its = subst (λ (k : ℕ). IsPayment network H market.points_per_bit state (k, found.0) p)
+      let its = subst (λ (k : ℕ). Pays state (k, found.0) p)
       here (found.1) in
       record { covers = its.covers; low_end = its.low_end }
 
@@ -93,7 +94,8 @@ module _ (market : Market) (H : List Entry) where
         few_users = subst (λ (n : ℕ). n ≤ max_payments)
             (sym (length-map payments named) ∙ ap (λ (us : List (List ℕ)). length us) names) few
 
-        from : IsSettlement network H market.points_per_bit (Settled (revision H + 1) payments)
+        from : IsSettlement network H market.max_trades market.points_per_bit
+            (Settled (revision H + 1) payments)
             → PayEach market H outcome.state payments
         from h =
             let e : Settled (revision H + 1) payments ≡ Settled (revision H + 1) h.payments
@@ -114,7 +116,7 @@ module _ (market : Market) (H : List Entry) where
       where
         never : SettlingIs market H reply → ⊥
         never (inl (few, h)) = other h.payments (numbered_names
-            (IsPayment network H market.points_per_bit h.state) named (λ k y p its. its.name) 0
+            (Pays h.state) named (λ k y p its. its.name) 0
             (users H) h.payments h.paid) h.printed
         never (inr (many, summed)) = neither summed
 
@@ -146,14 +148,16 @@ module _ (market : Market) (H : List Entry) where
 
   -- the payment to one user
   pub payment_judged : (state : List ℕ) (u : ℕ) (payment : Payment) (factor : Factor)
-      (small : Bool) (b : ℕ) (j : Judged) → TellsSmall small market H → IsSound network H
+      (small : Bool) (most_trades b : ℕ) (j : Judged) → TellsSmall small market H
+      → IsSound network H
       → IsFactorOf (evidence_grade market H) network H u (gain H u state) factor
-      → b ≡ market.points_per_bit
+      → most_trades ≡ market.max_trades → b ≡ market.points_per_bit
       → payment.paid ≡ payment.low
-      → JudgesCash j factor small b payment.low payment.high
+      → JudgesCash j factor small most_trades b payment.low payment.high
       → Judges j (PaysCash market H state u payment) (IsPaymentLeftOpen market H state u payment)
-  payment_judged state u payment factor small b j tells sound its points low says =
+  payment_judged state u payment factor small most_trades b j tells sound its trades points low
+      says =
       judges_as j _ (PaysCash market H state u payment) _ _
       (λ covers. record { covers = covers; low_end = low }) (λ pays. pays.covers) (λ o. o)
-      (cash_judged market H u (gain H u state) factor small b payment.low payment.high j tells
-      sound its points says)
+      (cash_judged market H u (gain H u state) factor small most_trades b payment.low payment.high j
+      tells sound its trades points says)

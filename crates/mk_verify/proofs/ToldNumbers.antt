@@ -2,7 +2,7 @@
 use Rattle.std.proofs.Common.{◌≡◌, ℕ, ◌+◌, ◌*◌, ◌^◌, ◌≤◌, ◌<◌, inl, inr, Bool, refl, sym, subst, List, length, Option, Some, None, IsSomeAnd, arith}
 use Rattle.mk_net.specs.declared.words.QuestionText.{QuestionText}
 use Rattle.mk_net.specs.Asked.{Asked}
-use Rattle.mk_net.specs.Bounds.{million}
+use Rattle.mk_net.specs.Bounds.{million, sharpness}
 use Rattle.mk_states.specs.InitialWeight.{initial_total}
 use Rattle.mk_states.specs.Events.{always}
 use Rattle.mk_exact.specs.History.{Entry, revision}
@@ -46,24 +46,31 @@ judges_same market H command reply told j is judged =
 -- ---- prices
 
 pub price_told : (market : Market) (H : List Entry) (q : QuestionText) (bounds : PriceBounds)
-    (small : Bool) (low high : ℕ) (j : Judged) → first_refusal market H (Price q) ≡ None
+    (small : Bool) (most_trades low high : ℕ) (j : Judged)
+    → first_refusal market H (Price q) ≡ None
     → IsSomeAnd (question_named market.network q)
     (λ asked. AreBoundsOfPrice (evidence_grade market H) market.network H asked bounds)
-    → TellsSmall small market H → JudgesPrice j bounds small low high
+    → TellsSmall small market H → most_trades ≡ market.max_trades
+    → JudgesPrice j bounds small most_trades low high
     → JudgesReply market H (Price q) (Priced low high) j
-price_told market H q bounds small low high j none evidence tells says quotes stands =
+price_told market H q bounds small most_trades low high j none evidence tells trades says quotes
+    stands =
     let network = market.network in
     judges_answer market H quotes (Price q) (Priced low high) j _ none
-    (judges_some (question_named network q) _ (λ asked. IsPrice network H asked (Priced low high))
+    (judges_some (question_named network q) _
+    (λ asked. IsPrice network H market.max_trades asked (Priced low high))
     (λ asked. IsPriceOpen market H asked (low, high)) j evidence
     (λ asked its. judges_as j
-    (CoversPrice (IsSmall network H) (exact_price network H asked) low high) _ _ _
+    (CoversPrice (IsSmall network H) (sharpness market.max_trades) (exact_price network H asked)
+    low high) _ _ _
     (λ covers. record { low = low; high = high; printed = refl; covers = covers })
     (from network asked) (λ o. o)
-    (price_judged market H asked bounds small low high j tells its says)))
+    (price_judged market H asked bounds small most_trades low high j tells its trades says)))
   where
-    from : (network : _) (asked : Asked) → IsPrice network H asked (Priced low high)
-        → CoversPrice (IsSmall network H) (exact_price network H asked) low high
+    from : (network : _) (asked : Asked)
+        → IsPrice network H market.max_trades asked (Priced low high)
+        → CoversPrice (IsSmall network H) (sharpness market.max_trades)
+        (exact_price network H asked) low high
     from network asked h =
         let e : Priced low high ≡ Priced h.low h.high = h.printed in
         let l : low ≡ h.low = cc in
@@ -80,37 +87,40 @@ no_price market H q reply none other quotes stands =
     (other_at (question_named market.network q))
   where
     other_at : (o : Option Asked)
-        → IsSomeAnd o (λ asked. IsPrice market.network H asked reply) → ⊥
+        → IsSomeAnd o (λ asked. IsPrice market.network H market.max_trades asked reply) → ⊥
     other_at None h = h
     other_at (Some asked) h = other h.low h.high h.printed
 
 -- ---- cash
 
 pub worst_told : (market : Market) (H : List Entry) (name : List ℕ) (factor : Factor)
-    (small : Bool) (b low high : ℕ) (j : Judged) → first_refusal market H (Worst name) ≡ None
+    (small : Bool) (most_trades b low high : ℕ) (j : Judged)
+    → first_refusal market H (Worst name) ≡ None
     → IsLeastFactorOf (evidence_grade market H) market.network H
     (user_number H name) always factor
-    → TellsSmall small market H → b ≡ market.points_per_bit
-    → JudgesCash j factor small b low high
+    → TellsSmall small market H → most_trades ≡ market.max_trades → b ≡ market.points_per_bit
+    → JudgesCash j factor small most_trades b low high
     → JudgesReply market H (Worst name) (Worsted low high) j
-worst_told market H name factor small b low high j none evidence tells points says quotes stands =
+worst_told market H name factor small most_trades b low high j none evidence tells trades points
+    says quotes stands =
     let network = market.network in
     let u = user_number H name in
     judges_answer market H quotes (Worst name) (Worsted low high) j _ none
     (judges_some (least_gain network H u always) _
-    (λ g. IsWorst (IsSmall network H) (HoldsNoTrade H u) (factor_with H u g)
-    market.points_per_bit (Worsted low high))
+    (λ g. IsWorst (IsSmall network H) (HoldsNoTrade H u) (sharpness market.max_trades)
+    (factor_with H u g) market.points_per_bit (Worsted low high))
     (λ g. IsCashOpen market H u (factor_with H u g) (low, high)) j evidence
     (λ g its. judges_as j
-    (CoversCash (IsSmall network H) (HoldsNoTrade H u) (factor_with H u g) market.points_per_bit
-    low high) _ _ _
+    (CoversCash (IsSmall network H) (HoldsNoTrade H u) (sharpness market.max_trades)
+    (factor_with H u g) market.points_per_bit low high) _ _ _
     (λ covers. record { low = low; high = high; printed = refl; covers = covers })
-    (from _ _ (factor_with H u g) market.points_per_bit) (λ o. o)
-    (cash_judged market H u g factor small b low high j tells stands.sound its points says)))
+    (from _ _ (sharpness market.max_trades) (factor_with H u g) market.points_per_bit) (λ o. o)
+    (cash_judged market H u g factor small most_trades b low high j tells stands.sound its trades
+    points says)))
   where
-    from : (small idle : Type 0) (q : Fraction) (k : ℕ)
-        → IsWorst small idle q k (Worsted low high) → CoversCash small idle q k low high
-    from small idle q k h =
+    from : (small idle : Type 0) (near : ℕ) (q : Fraction) (k : ℕ)
+        → IsWorst small idle near q k (Worsted low high) → CoversCash small idle near q k low high
+    from small idle near q k h =
         let e : Worsted low high ≡ Worsted h.low h.high = h.printed in
         let l : low ≡ h.low = cc in
         let m : high ≡ h.high = cc in
@@ -128,8 +138,8 @@ no_worst market H name reply none other quotes stands =
   where
     other_at : (o : Option ℕ)
         → IsSomeAnd o (λ g. IsWorst (IsSmall market.network H)
-        (HoldsNoTrade H (user_number H name)) (factor_with H (user_number H name) g)
-        market.points_per_bit reply) → ⊥
+        (HoldsNoTrade H (user_number H name)) (sharpness market.max_trades)
+        (factor_with H (user_number H name) g) market.points_per_bit reply) → ⊥
     other_at None h = h
     other_at (Some g) h = other h.low h.high h.printed
 
@@ -142,7 +152,7 @@ module _ (market : Market) (H : List Entry) (name : List ℕ) (bits : ℕ)
 
   abbrev IsTaken : Reply → ℕ → Type 0
   IsTaken reply g = IsWithdrawal (IsSmall market.network H) (HoldsNoTrade H its_number)
-      (factor_with H its_number g) name bits (revision H + 1) reply
+      (sharpness market.max_trades) (factor_with H its_number g) name bits (revision H + 1) reply
 
   pub withdrawn_told : (factor : Factor) (j : Judged)
       → IsLeastFactorOf (evidence_grade market H) market.network H its_number always factor
@@ -163,25 +173,28 @@ module _ (market : Market) (H : List Entry) (name : List ℕ) (bits : ℕ)
       from g (inl taken) = taken.0
       from g (inr short) = absurd (let e = short.printed in cc)
 
-  pub short_told : (factor : Factor) (small : Bool) (most : ℕ) (j : Judged) → most < bits
+  pub short_told : (factor : Factor) (small : Bool) (most_trades most : ℕ) (j : Judged)
+      → most < bits
       → IsLeastFactorOf (evidence_grade market H) market.network H its_number always factor
-      → TellsSmall small market H → JudgesMost j factor small most
+      → TellsSmall small market H → most_trades ≡ market.max_trades
+      → JudgesMost j factor small most_trades most
       → JudgesReply market H (Withdraw name bits) (Refused (Short most)) j
-  short_told factor small most j less evidence tells says quotes stands =
+  short_told factor small most_trades most j less evidence tells trades says quotes stands =
       let network = market.network in
       let told = Refused (Short most) in
       judges_answer market H quotes (Withdraw name bits) told j _ none
       (judges_some (least_gain network H its_number always) _ (IsTaken told)
       (λ g. IsMostOpen market H its_number (factor_with H its_number g) most) j evidence
       (λ g its. judges_as j (IsMost (IsSmall network H) (HoldsNoTrade H its_number)
-      (factor_with H its_number g) most) _ _ _
+      (sharpness market.max_trades) (factor_with H its_number g) most) _ _ _
       (λ is. inr (record { most = most; less = less; is_most = is; printed = refl })) (from g)
       (λ o. o)
-      (most_judged market H its_number g factor small most j tells stands.sound its says)))
+      (most_judged market H its_number g factor small most_trades most j tells stands.sound its
+      trades says)))
     where
       from : (g : ℕ) → IsTaken (Refused (Short most)) g
           → IsMost (IsSmall market.network H) (HoldsNoTrade H its_number)
-          (factor_with H its_number g) most
+          (sharpness market.max_trades) (factor_with H its_number g) most
       from g (inl taken) = absurd (let e = taken.1 in cc)
       from g (inr short) =
           let e : Refused (Short most) ≡ Refused (Short short.most) = short.printed in

@@ -33,26 +33,30 @@ use Rattle.mk_verify.specs.inner.Judging.{TellsSmall, JudgesReply, AreBoundsOfPr
 use Rattle.mk_verify.proofs.Exactness.{JudgesCash, cash_judged}
 use Rattle.mk_judge.specs.Powers.{HasCashRange}
 use Rattle.mk_judge.specs.Prices.{HavePriceRange}
-use Rattle.mk_net.specs.Bounds.{max_points_per_bit}
+use Rattle.mk_net.specs.Bounds.{max_points_per_bit, sharpness}
 use Rattle.mk_answers.specs.Evidence.{AreBoundsOfPrice, IsSureFactor}
 use Rattle.mk_verify.proofs.Places.{each_ranged}
 use Rattle.mk_verify.proofs.Verdicts.{judges_some, judges_answer}
 
 pub least_judged : (market : Market) (H : List Entry) (u : ℕ) (test : List ℕ → Bool)
-    (factor : Factor) (small : Bool) (b low high : ℕ) (j : Judged) → TellsSmall small market H
-    → IsSound market.network H → b ≡ market.points_per_bit
+    (factor : Factor) (small : Bool) (most_trades b low high : ℕ) (j : Judged)
+    → TellsSmall small market H → IsSound market.network H
+    → most_trades ≡ market.max_trades → b ≡ market.points_per_bit
     → IsLeastFactorOf (evidence_grade market H) market.network H u test factor
-    → JudgesCash j factor small b low high
-    → Judges j (CoversLeast market.network H u market.points_per_bit test (low, high))
+    → JudgesCash j factor small most_trades b low high
+    → Judges j
+    (CoversLeast market.network H market.max_trades u market.points_per_bit test (low, high))
     (IsLeastCashOpen market H u test (low, high))
-least_judged market H u test factor small b low high j tells sound points evidence says =
+least_judged market H u test factor small most_trades b low high j tells sound trades points
+    evidence says =
     let network = market.network in
     judges_some (least_gain network H u test)
     (λ g. IsFactorOf (evidence_grade market H) network H u g factor)
-    (λ g. CoversCash (IsSmall network H) (HoldsNoTrade H u) (factor_with H u g)
-    market.points_per_bit low high)
+    (λ g. CoversCash (IsSmall network H) (HoldsNoTrade H u) (sharpness market.max_trades)
+    (factor_with H u g) market.points_per_bit low high)
     (λ g. IsCashOpen market H u (factor_with H u g) (low, high)) j evidence
-    (λ g its. cash_judged market H u g factor small b low high j tells sound its points says)
+    (λ g its. cash_judged market H u g factor small most_trades b low high j tells sound its trades
+    points says)
 
 -- ---- prices
 
@@ -63,7 +67,7 @@ module _ (market : Market) (H : List Entry) (v : List ℕ) (condition : ArrayVec
       → IsSomeAnd (spread_named market.network v condition.items)
       (λ spread. AreBoundsOfPrices market H spread bounds)
       → ((spread : SpreadAsked) → AreBoundsOfPrices market H spread bounds
-      → Judges j (ArePricesOf market.network H spread intervals.items)
+      → Judges j (ArePricesOf market.network H market.max_trades spread intervals.items)
       (IsPlaceOpen intervals.items (λ value ends. IsPriceOpen market H (asked_of spread value) ends)))
       → JudgesReply market H (Prices v condition) (PricesTold intervals) j
   prices_told bounds intervals small j tells evidence judged quotes stands =
@@ -71,15 +75,17 @@ module _ (market : Market) (H : List Entry) (v : List ℕ) (condition : ArrayVec
       judges_answer market H quotes (Prices v condition) (PricesTold intervals) j _ none
       (judges_some (spread_named network v condition.items)
       (λ spread. AreBoundsOfPrices market H spread bounds)
-      (λ spread. ArePrices network H spread (PricesTold intervals))
+      (λ spread. ArePrices network H market.max_trades spread (PricesTold intervals))
       (λ spread. IsPlaceOpen intervals.items
       (λ value ends. IsPriceOpen market H (asked_of spread value) ends)) j evidence
-      (λ spread its. judges_as j (ArePricesOf network H spread intervals.items) _ _ _
+      (λ spread its. judges_as j (ArePricesOf network H market.max_trades spread intervals.items)
+      _ _ _
       (λ covers. record { intervals = intervals; printed = refl; covers = covers }) (from spread)
       (λ o. o) (judged spread its)))
     where
-      from : (spread : SpreadAsked) → ArePrices market.network H spread (PricesTold intervals)
-          → ArePricesOf market.network H spread intervals.items
+      from : (spread : SpreadAsked)
+          → ArePrices market.network H market.max_trades spread (PricesTold intervals)
+          → ArePricesOf market.network H market.max_trades spread intervals.items
       from spread h =
           let e : PricesTold intervals ≡ PricesTold h.intervals = h.printed in
           let same : intervals ≡ h.intervals = cc in
@@ -95,7 +101,7 @@ module _ (market : Market) (H : List Entry) (v : List ℕ) (condition : ArrayVec
       (other_at (spread_named market.network v condition.items))
     where
       other_at : (o : Option SpreadAsked)
-          → IsSomeAnd o (λ spread. ArePrices market.network H spread reply) → ⊥
+          → IsSomeAnd o (λ spread. ArePrices market.network H market.max_trades spread reply) → ⊥
       other_at None h = h
       other_at (Some spread) h = other h.intervals h.printed
 
@@ -108,7 +114,7 @@ module _ (market : Market) (H : List Entry) (name v : List ℕ) (condition : Arr
 
   abbrev IsTold : SpreadAsked → Reply → Type 0
   IsTold spread reply =
-      IsPosition market.network H its_number market.points_per_bit spread reply
+      IsPosition market.network H market.max_trades its_number market.points_per_bit spread reply
 
   pub position_told : (factors : List (Option Factor)) (intervals : ArrayVec (Option (ℕ × ℕ)))
       (j : Judged)
@@ -116,7 +122,8 @@ module _ (market : Market) (H : List Entry) (name v : List ℕ) (condition : Arr
       (λ spread. AreSureFactorsOf market H its_number spread factors)
       → ((spread : SpreadAsked) → IsSound market.network H
       → AreSureFactorsOf market H its_number spread factors
-      → Judges j (IsPositionOf market.network H its_number market.points_per_bit spread
+      → Judges j
+      (IsPositionOf market.network H market.max_trades its_number market.points_per_bit spread
       intervals.items) (IsPlaceOpen intervals.items (λ value ends. IsSomeAnd ends
       (IsLeastCashOpen market H its_number (with_target (asked_of spread value))))))
       → JudgesReply market H (Position name v condition) (PositionTold intervals) j
@@ -128,13 +135,14 @@ module _ (market : Market) (H : List Entry) (name v : List ℕ) (condition : Arr
       (λ spread. IsTold spread (PositionTold intervals))
       (λ spread. IsPlaceOpen intervals.items (λ value ends. IsSomeAnd ends
       (IsLeastCashOpen market H its_number (with_target (asked_of spread value))))) j evidence
-      (λ spread its. judges_as j (IsPositionOf network H its_number market.points_per_bit spread
+      (λ spread its. judges_as j
+      (IsPositionOf network H market.max_trades its_number market.points_per_bit spread
       intervals.items) _ _ _
       (λ covers. record { intervals = intervals; printed = refl; covers = covers }) (from spread)
       (λ o. o) (judged spread stands.sound its)))
     where
       from : (spread : SpreadAsked) → IsTold spread (PositionTold intervals)
-          → IsPositionOf market.network H its_number market.points_per_bit spread
+          → IsPositionOf market.network H market.max_trades its_number market.points_per_bit spread
           intervals.items
       from spread h =
           let e : PositionTold intervals ≡ PositionTold h.intervals = h.printed in

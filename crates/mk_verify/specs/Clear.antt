@@ -3,7 +3,7 @@
 -- them need not show which is greater.
 use Rattle.std.specs.Prelude.{◌≡◌, ℕ, ◌+◌, ◌-◌, ◌*◌, ◌^◌, ◌≤◌, ◌⊎◌, ◌∷◌, [], List, Option, Some}
 use Rattle.std.specs.Prelude.{None, IsSomeAnd, slice_get, Bool}
-use Rattle.mk_net.specs.Bounds.{million, number_limit}
+use Rattle.mk_net.specs.Bounds.{million, number_limit, sharpness}
 use Rattle.mk_net.specs.Asked.{Asked}
 use Rattle.mk_states.specs.InitialWeight.{initial_total}
 use Rattle.mk_states.specs.Events.{always, with_target}
@@ -52,15 +52,15 @@ near_steps market H = 4 * evidence_grade market H
 pub record IsPriceOpen (market : Market) (H : List Entry) (asked : Asked) (ends : ℕ × ℕ) : Type
     0 where
   pub large : ¬ IsSmall market.network H
-  pub near : AreNearUnits (exact_price market.network H asked) (ends.0) (ends.1)
-      (near_steps market H)
+  pub near : AreNearUnits (sharpness market.max_trades) (exact_price market.network H asked)
+      (ends.0) (ends.1) (near_steps market H)
 
 -- the cash of a factor and its printed ends; never of a user who holds no trade. Small histories
 -- leave it open too, since the power of a factor is rounded
 pub record IsCashOpen (market : Market) (H : List Entry) (u : ℕ) (q : Fraction) (ends : ℕ × ℕ) :
     Type 0 where
   pub traded : ¬ HoldsNoTrade H u
-  pub near : ArePowersNear (2 ^ 42) q market.points_per_bit (ends.0) (ends.1)
+  pub near : ArePowersNear (sharpness market.max_trades) q market.points_per_bit (ends.0) (ends.1)
       (market.points_per_bit * near_steps market H)
       ⊎ IsSmall market.network H × ArePowersNear (2 ^ 59) q market.points_per_bit (ends.0)
       (ends.1) (market.points_per_bit * near_steps market H)
@@ -83,7 +83,8 @@ pub record IsMostOpen (market : Market) (H : List Entry) (u : ℕ) (q : Fraction
     pub large : ¬ IsSmall market.network H
     pub traded : ¬ HoldsNoTrade H u
     pub near : AreNear (2 ^ most * q.den) q.num (near_steps market H)
-        ⊎ AreNear (2 ^ (most + 1) * 2 ^ 43 * q.den) (q.num * (2 ^ 43 - 1)) (near_steps market H)
+        ⊎ AreNear (2 ^ (most + 1) * (2 * sharpness market.max_trades) * q.den)
+        (q.num * (2 * sharpness market.max_trades - 1)) (near_steps market H)
 
 -- ---- one side of a question; what names no price is never near for a user who holds no trade
 

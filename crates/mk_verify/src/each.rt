@@ -2,7 +2,7 @@
 ghost use Rattle.std.specs.Prelude.{◌≡◌, ℕ, ◌≤◌, List, IfSome, IsSomeAnd, All};
 ghost use Rattle.std.specs.List.{AllZip};
 ghost use Rattle.mk_net.specs.Asked.{Asked};
-ghost use Rattle.mk_net.specs.Bounds.{max_points_per_bit};
+ghost use Rattle.mk_net.specs.Bounds.{max_points_per_bit, sharpness};
 ghost use Rattle.mk_text.specs.Numbers.{AreEnds};
 ghost use Rattle.mk_states.specs.Events.{with_target};
 ghost use Rattle.mk_exact.specs.History.{Entry};
@@ -23,12 +23,19 @@ ghost use Rattle.mk_verify.specs.inner.Judging.{TellsSmall, AreBoundsOfPrices, A
 use mk_enclose::Factor;
 use mk_judge::{Judged, PriceBounds, judge_cash, judge_price};
 
-/// Judges the prices that are printed for the values of a variable, in order.
-pub fn judge_each_price(bounds: &[Option<PriceBounds>], small: bool, told: &[(u64, u64)]) -> Judged
+/// Judges the prices that are printed for the values of a variable, in order, in a market of at
+/// most so many trades.
+pub fn judge_each_price(
+    bounds: &[Option<PriceBounds>],
+    small: bool,
+    most_trades: u32,
+    told: &[(u64, u64)],
+) -> Judged
     requires range { All (λ found. IfSome found HavePriceRange) bounds.now }
     ensures { (market : Market) (H : List Entry) (spread : SpreadAsked)
-        → TellsSmall small market H → AreBoundsOfPrices market H spread bounds.now
-        → Judges result (ArePricesOf market.network H spread told.now)
+        → TellsSmall small market H → most_trades ≡ market.max_trades
+        → AreBoundsOfPrices market H spread bounds.now
+        → Judges result (ArePricesOf market.network H market.max_trades spread told.now)
         (IsPlaceOpen told.now (λ value ends. IsPriceOpen market H (asked_of spread value) ends)) }
 {
     if bounds.len() != told.len() {
@@ -36,23 +43,29 @@ pub fn judge_each_price(bounds: &[Option<PriceBounds>], small: bool, told: &[(u6
     }
     let mut judged = Judged::Allowed;
     for value in 0..bounds.len() {
-        judged = judged.and(judge_value_price(&bounds[value], small, told[value]));
+        judged = judged.and(judge_value_price(&bounds[value], small, most_trades, told[value]));
     }
     judged
 }
 
 /// Judges the price of one value.
-fn judge_value_price(bounds: &Option<PriceBounds>, small: bool, told: (u64, u64)) -> Judged
+fn judge_value_price(
+    bounds: &Option<PriceBounds>,
+    small: bool,
+    most_trades: u32,
+    told: (u64, u64),
+) -> Judged
     requires range { IfSome bounds.now HavePriceRange }
     ensures { (market : Market) (H : List Entry) (asked : Asked) → TellsSmall small market H
+        → most_trades ≡ market.max_trades
         → IsSomeAnd bounds.now (AreBoundsOfPrice (evidence_grade market H)
         market.network H asked)
-        → Judges result (CoversPrice (IsSmall market.network H)
+        → Judges result (CoversPrice (IsSmall market.network H) (sharpness market.max_trades)
         (exact_price market.network H asked) told.0 told.1)
         (IsPriceOpen market H asked told) }
 {
     match bounds {
-        Some(bounds) => judge_price(bounds, small, told.0, told.1),
+        Some(bounds) => judge_price(bounds, small, most_trades, told.0, told.1),
         None => Judged::Wrong,
     }
 }
@@ -61,6 +74,7 @@ fn judge_value_price(bounds: &Option<PriceBounds>, small: bool, told: (u64, u64)
 pub fn judge_each_position(
     factors: &[Option<Factor>],
     small: bool,
+    most_trades: u32,
     points_per_bit: u32,
     told: &[Option<(u64, u64)>],
 ) -> Judged
@@ -71,10 +85,10 @@ pub fn judge_each_position(
     requires fits { All AreEnds told.now }
     ensures { (market : Market) (H : List Entry) (u : ℕ) (spread : SpreadAsked)
         → TellsSmall small market H → IsSound market.network H
-        → points_per_bit ≡ market.points_per_bit
+        → most_trades ≡ market.max_trades → points_per_bit ≡ market.points_per_bit
         → AreSureFactorsOf market H u spread factors.now
         → Judges result
-        (IsPositionOf market.network H u market.points_per_bit spread told.now)
+        (IsPositionOf market.network H market.max_trades u market.points_per_bit spread told.now)
         (IsPlaceOpen told.now (λ value ends. IsSomeAnd ends
         (IsLeastCashOpen market H u (with_target (asked_of spread value))))) }
 {
@@ -83,7 +97,13 @@ pub fn judge_each_position(
     }
     let mut judged = Judged::Allowed;
     for value in 0..factors.len() {
-        judged = judged.and(judge_value_cash(&factors[value], small, points_per_bit, told[value]));
+        judged = judged.and(judge_value_cash(
+            &factors[value],
+            small,
+            most_trades,
+            points_per_bit,
+            told[value],
+        ));
     }
     judged
 }
@@ -92,6 +112,7 @@ pub fn judge_each_position(
 fn judge_value_cash(
     factor: &Option<Factor>,
     small: bool,
+    most_trades: u32,
     points_per_bit: u32,
     told: Option<(u64, u64)>,
 ) -> Judged
@@ -101,17 +122,19 @@ fn judge_value_cash(
     requires fits { AreEnds told }
     ensures { (market : Market) (H : List Entry) (u value : ℕ) (spread : SpreadAsked)
         → TellsSmall small market H → IsSound market.network H
-        → points_per_bit ≡ market.points_per_bit
+        → most_trades ≡ market.max_trades → points_per_bit ≡ market.points_per_bit
         → IsSureFactor (evidence_grade market H) market.network H u
         (with_target (asked_of spread value))
         factor.now
         → Judges result
-        (IsSureOf market.network H u market.points_per_bit spread value told)
+        (IsSureOf market.network H market.max_trades u market.points_per_bit spread value told)
         (IsSomeAnd told (IsLeastCashOpen market H u (with_target (asked_of spread value)))) }
 {
     match (factor, told) {
         (None, None) => Judged::Allowed,
-        (Some(factor), Some((low, high))) => judge_cash(factor, small, points_per_bit, low, high),
+        (Some(factor), Some((low, high))) => {
+            judge_cash(factor, small, most_trades, points_per_bit, low, high)
+        }
         (None, Some(_)) | (Some(_), None) => Judged::Wrong,
     }
 }

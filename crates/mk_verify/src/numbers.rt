@@ -32,7 +32,9 @@ pub fn judge_price_reply<P: TreeGraded<SumProd>, A: TreeGraded<MinProd>>(
     match price_evidence(market, question) {
         Err(why) => judge_refused(&why, reply),
         Ok(bounds) => match reply {
-            Reply::Price { low, high } => judge_price(&bounds, small, *low, *high),
+            Reply::Price { low, high } => {
+                judge_price(&bounds, small, market.max_trades(), *low, *high)
+            }
             _ => Judged::Wrong,
         },
     }
@@ -54,9 +56,14 @@ pub fn judge_worst_reply<P: TreeGraded<SumProd>, A: TreeGraded<MinProd>>(
     match worst_evidence(market, name) {
         Err(why) => judge_refused(&why, reply),
         Ok(factor) => match reply {
-            Reply::Worst { low, high } => {
-                judge_cash(&factor, small, market.points_per_bit(), *low, *high)
-            }
+            Reply::Worst { low, high } => judge_cash(
+                &factor,
+                small,
+                market.max_trades(),
+                market.points_per_bit(),
+                *low,
+                *high,
+            ),
             _ => Judged::Wrong,
         },
     }
@@ -83,7 +90,7 @@ pub fn judge_withdrawal<P: TreeGraded<SumProd>, A: TreeGraded<MinProd>>(
                 return judge_covered(&factor, bits as u64);
             }
             match told_most(bits, reply) {
-                Some(most) => judge_most(&factor, small, most),
+                Some(most) => judge_most(&factor, small, market.max_trades(), most),
                 None => Judged::Wrong,
             }
         }

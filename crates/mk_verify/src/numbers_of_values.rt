@@ -31,9 +31,12 @@ pub fn judge_prices<P: TreeGraded<SumProd>, A: TreeGraded<MinProd>>(
     match prices_evidence(market, variable, condition) {
         Err(why) => judge_refused(&why, reply),
         Ok(bounds) => match reply {
-            Reply::Prices { intervals } => {
-                judge_each_price(bounds.as_slice(), small, intervals.as_slice())
-            }
+            Reply::Prices { intervals } => judge_each_price(
+                bounds.as_slice(),
+                small,
+                market.max_trades(),
+                intervals.as_slice(),
+            ),
             _ => Judged::Wrong,
         },
     }
@@ -60,6 +63,7 @@ pub fn judge_position<P: TreeGraded<SumProd>, A: TreeGraded<MinProd>>(
             Reply::Position { intervals } => judge_each_position(
                 factors.as_slice(),
                 small,
+                market.max_trades(),
                 market.points_per_bit(),
                 intervals.as_slice(),
             ),

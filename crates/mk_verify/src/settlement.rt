@@ -148,6 +148,7 @@ fn judge_payment<P: TreeGraded<SumProd>, A: TreeGraded<MinProd>>(
     judge_cash(
         &factor,
         small,
+        market.max_trades(),
         market.points_per_bit(),
         payment.low,
         payment.high,

@@ -1,7 +1,7 @@
 -- Beliefs in what is possible.
-use Rattle.std.specs.Prelude.{◌≡◌, ℕ, ◌+◌, ◌^◌, ◌≤◌, List, slice_index, true, Option, Some, IsNone}
+use Rattle.std.specs.Prelude.{◌≡◌, ℕ, ◌+◌, ◌≤◌, List, slice_index, true, Option, Some, IsNone}
 use Rattle.std.specs.Prelude.{IfSome, ◌↔◌}
-use Rattle.mk_net.specs.Bounds.{max_values}
+use Rattle.mk_net.specs.Bounds.{max_market_trades, max_values}
 use Rattle.mk_net.specs.Network.{Variable, sizes}
 use Rattle.mk_net.specs.Asked.{Asked}
 use Rattle.mk_net.specs.Events.{pairs_asked}
@@ -13,6 +13,7 @@ use Rattle.mk_exact.specs.Weight.{total, IsSmall, cannot_come}
 use Rattle.mk_enclose.specs.declared.enclosure.Enclosure.{Enclosure}
 use Rattle.mk_enclose.specs.declared.factor.Factor.{Factor}
 use Rattle.mk_enclose.specs.Enclosure.{Encloses, HasGrade, IsExact, IsGradedWithin}
+use Rattle.mk_enclose.specs.Enclosure.{widest_grade}
 use Rattle.mk_semiring.specs.declared.held.Held.{Held}
 use Rattle.mk_semiring.specs.declared.held.Held.TheVariants.{Present}
 use Rattle.mk_semiring.specs.Held.{HeldEncloses, HasHeldGrade, IsHeldExact}
@@ -52,7 +53,7 @@ pub record IsCounted (H : List Entry) (u : ℕ) (factor : Factor) : Type 0 where
 -- an enclosure of a number, with its grade, and exact in the small case
 pub record IsFoundOf (e : Enclosure) (small : Type 0) (number : ℕ) : Type 0 where
   pub encloses : Encloses e number
-  pub graded : IsGradedWithin e (2 ^ 17)
+  pub graded : IsGradedWithin e widest_grade
   pub exact : small → IsExact e
 
 -- the enclosure is of the weight of the states where a question's target and condition hold, and where its condition holds
@@ -99,7 +100,8 @@ pub record CanOpen {E P : Type 0} (stands_for : E → Meaning
 -- over them
 pub record AreValueBoundsOf (network : List Variable) (H : List Entry) (u : ℕ) (asked : Asked) (value : ValueBounds) : Type 0 where
   pub part : IsPartFor network H asked value.part
-  pub factor : (g : ℕ) → least_gain network H u (with_target asked) ≡ Some g → IsFactorFor value.factor (IsSmall network H) (factor_with H u g)
+  pub factor : (g : ℕ) → least_gain network H u (with_target asked) ≡ Some g → IsFactorFor value.factor max_market_trades
+      (IsSmall network H) (factor_with H u g)
 
 -- such bounds, or none where it cannot
 pub record IsValueFound (network : List Variable) (H : List Entry) (u : ℕ) (asked : Asked) (found : Option ValueBounds) : Type 0 where

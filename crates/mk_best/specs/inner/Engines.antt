@@ -2,7 +2,7 @@
 -- states that are left.
 use Rattle.std.specs.Prelude.{◌≡◌, ℕ, ◌<◌, ◌≤◌, List, ◌++◌, map, length}
 use Rattle.mk_net.specs.declared.words.Pair.{Pair}
-use Rattle.mk_net.specs.Bounds.{max_market_trades}
+use Rattle.mk_net.specs.Bounds.{max_market_trades, sharpness, grade_room}
 use Rattle.mk_net.specs.Network.{Variable, IsNetwork}
 use Rattle.mk_states.specs.Events.{holds, always}
 use Rattle.mk_exact.specs.History.{Entry, Resolve, trades}
@@ -12,6 +12,7 @@ use Rattle.mk_exact.specs.Weight.{IsSmall, total}
 use Rattle.mk_enclose.specs.declared.enclosure.Enclosure.{Enclosure}
 use Rattle.mk_semiring.specs.declared.held.Held.{Held}
 use Rattle.mk_semiring.specs.declared.held.Held.TheVariants.{Present}
+use Rattle.mk_semiring.specs.Held.{HasHeldGrade}
 use Rattle.mk_tree.specs.Given.{GivenTree}
 use Rattle.mk_tree.specs.Checked.{IsTreeOf}
 use Rattle.mk_engine.specs.Meaning.{Meaning, ArePairsOf}
@@ -57,15 +58,18 @@ module _ {E : Type 0} (stands_for : E → Meaning → Type 0) where
 -- the share of the states with all pairs among those that are left; or none is left
 abbrev pub IsLeftFor : List Variable → List Entry → List Pair → Chance → Type 0
 IsLeftFor network H want (Price low high) =
-    (1 ≤ total network H always) × CoversPrice (IsSmall network H)
+    (1 ≤ total network H always) × CoversPrice (IsSmall network H) (sharpness (length (trades H)))
     (record { num = total network H (holds want); den = total network H always }) low high
 IsLeftFor network H want Impossible = total network H always ≡ 0
 
--- the beliefs are in a part and in a whole that is more
+-- the beliefs are in a part and in a whole that is more, with grades for which so many trades leave
+-- room
 pub record ArePartAndWhole (network : List Variable) (H : List Entry) (part : Held)
     (whole : Enclosure) (v w : ℕ) : Type 0 where
   pub of_part : IsBeliefIn part (IsSmall network H) v
   pub of_whole : IsBeliefIn (Present whole) (IsSmall network H) w
+  pub part_room : HasHeldGrade part (grade_room (length (trades H)))
+  pub whole_room : HasHeldGrade (Present whole) (grade_room (length (trades H)))
   pub less : v < w
 
 pub record HasPartAndWhole (part : Held) (whole : Enclosure) : Type 0 where

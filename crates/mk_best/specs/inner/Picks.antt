@@ -113,7 +113,7 @@ pub record AreEnds (own most : Held) (whole : Enclosure) (small : Type 0) (v w t
   pub of_best : IsBeliefIn most small w
   pub of_whole : IsBeliefIn (Present whole) small t
   pub some : 1 ≤ w
-  pub near : IsNear v w (2 ^ 25)
+  pub near : IsNear v w (2 ^ 28)
   pub state_at_most : v ≤ w
   pub best_at_most : w ≤ t
 
@@ -132,6 +132,6 @@ pub record IsCertificate (value : Enclosure) (units : ℕ) (small : Type 0) (v w
   pub of_best : Encloses value w
   pub width : upper_of value * 2 ^ 31 ≤ lower_of value * (2 ^ 31 + 1)
   pub at_least : 10 ^ 10 * w ≤ units * t
-  pub near : (low : ℕ) → low ≤ 10 ^ 10 → 10 ^ 10 * v * (2 ^ 42 - 1) < (low + 1) * t * 2 ^ 42
+  pub near : (low : ℕ) → low ≤ 10 ^ 10 → 10 ^ 10 * v * (2 ^ 39 - 1) < (low + 1) * t * 2 ^ 39
       → units ≤ low + 5
   pub ceiling : small → units * t < 10 ^ 10 * w + t

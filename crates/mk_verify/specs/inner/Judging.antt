@@ -2,6 +2,7 @@
 use Rattle.std.specs.Prelude.{◌≡◌, ℕ, ◌+◌, Bool, true, false, List, Option, Some, IsSomeAnd}
 use Rattle.std.specs.Prelude.{slice_get, ◌↔◌, ◌⊎◌}
 use Rattle.std.specs.List.{AllZip}
+use Rattle.mk_net.specs.Bounds.{sharpness}
 use Rattle.mk_states.specs.Events.{with_target}
 use Rattle.mk_exact.specs.History.{Entry, revision}
 use Rattle.mk_exact.specs.Market.{Market}
@@ -77,8 +78,9 @@ AreSureFactorsOf market H u spread factors =
 -- a payment to a user covers the cash of its factor in a state, and is the low end
 pub record PaysCash (market : Market) (H : List Entry) (state : List ℕ) (u : ℕ)
     (payment : Payment) : Type 0 where
-  pub covers : CoversCash (IsSmall market.network H) (HoldsNoTrade H u) (factor H u state)
-      market.points_per_bit payment.low payment.high
+  pub covers : CoversCash (IsSmall market.network H) (HoldsNoTrade H u)
+      (sharpness market.max_trades) (factor H u state) market.points_per_bit payment.low
+      payment.high
   pub low_end : payment.paid ≡ payment.low
 
 -- each of some payments does so, to the user of its place

@@ -1,4 +1,4 @@
-use Rattle.std.proofs.Common.{◌≡◌, ℕ, ◌+◌, ◌-◌, ◌^◌, List, slice_index, refl, ap, ◌∙◌, arith}
+use Rattle.std.proofs.Common.{◌≡◌, ℕ, ◌+◌, ◌-◌, List, slice_index, refl, ap, ◌∙◌, arith}
 use Rattle.mk_net.specs.Bounds.{max_values}
 use Rattle.mk_net.specs.declared.words.Pair.{Pair}
 use Rattle.mk_net.specs.Asked.{Asked}
@@ -10,6 +10,7 @@ use Rattle.mk_quote.specs.Bounds.{hit_side, miss_side}
 use Rattle.mk_semiring.specs.declared.held.Held.{Held}
 use Rattle.mk_semiring.specs.Held.{HeldEncloses, HasHeldGrade, IsHeldExact, held_grade_more}
 use Rattle.mk_tree.specs.Given.{GivenTree}
+use Rattle.mk_enclose.specs.Enclosure.{widest_grade}
 use Rattle.mk_engine.specs.Cases.{IsOthersBelief}
 use Rattle.mk_beliefs.specs.Meanings.{weights_of}
 use Rattle.mk_answers.specs.Open.{IsOpen, CanBeAnswered, holding_of}
@@ -110,7 +111,7 @@ returns-in-Present-Present-clause-bounded g c = λ tree H u most stands owns is_
       hit = λ on_hit on_miss both.
           let are = c.open_bounds.ensures.bounds network tree H u on_hit on_miss owns is_open
           answered sized hit miss both in
-          side_regraded network H (2 ^ 17) most u (hit_side bounds) on_hit
+          side_regraded network H widest_grade most u (hit_side bounds) on_hit
           (side_bounded network H u asked (with_target asked) (hit_side bounds) on_hit both.hit_side
           (c.open_bounds.ensures.hit_counted network tree H u owns is_open) are.sides.of_hit
           are.graded.hit (λ s. (are.exact s).hit)) (record {
@@ -122,7 +123,7 @@ returns-in-Present-Present-clause-bounded g c = λ tree H u most stands owns is_
       miss = λ on_hit on_miss both.
           let are = c.open_bounds.ensures.bounds network tree H u on_hit on_miss owns is_open
           answered sized hit miss both in
-          side_regraded network H (2 ^ 17) most u (miss_side bounds) on_miss
+          side_regraded network H widest_grade most u (miss_side bounds) on_miss
           (side_bounded network H u asked (without_target asked) (miss_side bounds) on_miss
           both.miss_side
           (c.open_bounds.ensures.miss_counted network tree H u owns is_open sized)

@@ -1,4 +1,4 @@
-use Rattle.std.proofs.Common.{◌≡◌, ◌+◌, ◌-◌, ◌^◌, [], Some, refl, subst, arith}
+use Rattle.std.proofs.Common.{◌≡◌, ◌+◌, ◌-◌, [], Some, refl, subst, arith}
 use Rattle.mk_net.specs.Bounds.{max_values}
 use Rattle.std.specs.Prelude.{slice_index}
 use Rattle.mk_net.specs.Network.{sizes}
@@ -9,6 +9,7 @@ use Rattle.mk_semiring.specs.declared.held.Held.{Held}
 use Rattle.mk_semiring.specs.declared.held.Held.TheVariants.{Present}
 use Rattle.mk_semiring.specs.Held.{held_grade_more}
 use Rattle.mk_judge.specs.declared.price.PriceBounds.TheVariants.{Between}
+use Rattle.mk_enclose.specs.Enclosure.{widest_grade}
 use Rattle.mk_beliefs.specs.Meanings.{weights_of}
 use Rattle.mk_answers.specs.inner.Found.{IsBeliefIn}
 use Rattle.mk_answers.proofs.Bounding.{can_ask, room_of_weights, found_of}
@@ -57,7 +58,7 @@ returns-then-not-is_empty-clause-bounds g c = λ tree H most stands is_open answ
     let sized : c.values-values.result ≡ slice_index (sizes network) asked.target.variable =
     rw c.target.ensures at c.values-values.ensures in
     let of = g.P.Engine.grade_of m in
-    bounded_regraded network H (2 ^ 17) most asked c.bounds_of_beliefs.result
+    bounded_regraded network H widest_grade most asked c.bounds_of_beliefs.result
     (c.bounds_of_beliefs.ensures.bounds network H asked is_open.legal is_open.proper (record {
       hit = hit_in network tree H is_open asked c.event.result c.belief-part.result
           c.event.ensures.pairs (c.belief-part.ensures.belief m stands);
@@ -118,7 +119,7 @@ returns-clause-bounds g c = λ tree H most stands is_open answered room.
     c.condition-condition.ensures.condition
     (c.belief-whole.ensures.belief m (c.belief-part.ensures.kept m stands))) in
     let of = g.P.Engine.grade_of m in
-    bounded_regraded network H (2 ^ 17) most asked
+    bounded_regraded network H widest_grade most asked
     (Some (Between c.enclosure_of.result c.enclosure_of-2.result))
     (bounded_between network H asked c.enclosure_of.result c.enclosure_of-2.result
     (part_in network tree H is_open asked c.event.result c.belief-part.result

@@ -1,9 +1,10 @@
-use Rattle.std.proofs.Common.{◌≡◌, ◌^◌, [], ◌∷◌, Some, None, refl, arith}
+use Rattle.std.proofs.Common.{◌≡◌, [], ◌∷◌, Some, None, refl, arith}
 use Rattle.std.specs.Prelude.{slice_index}
 use Rattle.mk_net.specs.Network.{sizes}
 use Rattle.mk_states.proofs.Shares.{few_values_at}
 use Rattle.mk_states.proofs.Sums.{each-append}
 use Rattle.mk_spread.specs.Spreads.{asked_of}
+use Rattle.mk_enclose.specs.Enclosure.{widest_grade}
 use Rattle.mk_beliefs.specs.Meanings.{weights_of}
 use Rattle.mk_quote.specs.declared.values.SpreadBounds.{SpreadBounds}
 use Rattle.mk_quote.specs.Questions.{spread_in}
@@ -118,7 +119,7 @@ returns-in-None-clause-bounded g c = λ tree H u most stands owns is_open answer
     let both = are_side_bounds network H u spread bounds
     (whole_for network tree H is_open spread condition c.belief.result refl b whole
     c.in-Present.is) n 0 parts sides found are in
-    values_regraded network H (2 ^ 17) most u (sides_in bounds) sides
+    values_regraded network H widest_grade most u (sides_in bounds) sides
     (each_bounded network H u spread bounds n 0 parts sides
     (c.loop-value.invariant.counted tree H u owns is_open) are both.sides both.graded both.exact)
     (sides_graded most bounds

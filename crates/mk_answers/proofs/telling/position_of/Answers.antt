@@ -21,7 +21,7 @@ least-requires-clause-held g c =
     (a.held 0))
 
 pub returns-in_default-clause-position : goal.returns-in_default-clause-position
-returns-in_default-clause-position g c = λ tree H u owns is_open answered.
+returns-in_default-clause-position g c = λ tree H most_trades u owns is_open fit answered.
     let net = c.args.net.now in
     none_comes net tree H u is_open c.args.asked.now.condition _ c.least.result
     (c.least.ensures.least (holding_of net tree H u) owns)
@@ -64,16 +64,18 @@ loop-value-preserved g c =
     record {
       kept_assets = λ h owns. c.sure_of.ensures.kept_assets h (so_far.kept_assets h owns);
       long = omega (arith, so_far.long, c.push.ensures.len);
-      sure = λ tree H u owns is_open sound.
+      sure = λ tree H most_trades u owns is_open fit sound.
           rw c.push.ensures.items
-          (zip_more (IsSureOf net H u c.args.points_per_bit spread) c.loop-value.value
-          c.loop-value.intervals.items c.sure_of.result (so_far.sure tree H u owns is_open sound)
+          (zip_more (IsSureOf net H most_trades u c.args.points_per_bit spread) c.loop-value.value
+          c.loop-value.intervals.items c.sure_of.result
+          (so_far.sure tree H most_trades u owns is_open fit sound)
           (rw c.question_at-question.ensures at
-          (c.sure_of.ensures.sure tree H u (so_far.kept_assets _ owns) is_open sound)));
+          (c.sure_of.ensures.sure tree H most_trades u (so_far.kept_assets _ owns) is_open fit
+          sound)));
     }
 
 pub returns-clause-position : goal.returns-clause-position
-returns-clause-position g c = λ tree H u owns is_open answered.
+returns-clause-position g c = λ tree H most_trades u owns is_open fit answered.
     let net = c.args.net.now in let spread = spread_in c.args.asked.now in
     let all : c.loop-value.value ≡ slice_index (sizes net) spread.variable =
     omega (arith, c.values-value-end.ensures, c.loop-value-test.false, c.loop-value.auto.value-end)
@@ -82,7 +84,7 @@ returns-clause-position g c = λ tree H u owns is_open answered.
       comes net tree H u is_open c.args.asked.now.condition _ c.least.result
           (c.least.ensures.least (holding_of net tree H u) owns) c.in-Some.field-0 c.in-Some.is,
       λ sound.
-          subst (λ (n : ℕ). AllZip (IsSureOf net H u c.args.points_per_bit spread)
+          subst (λ (n : ℕ). AllZip (IsSureOf net H most_trades u c.args.points_per_bit spread)
           (range_with_len 0 n) items) all
-          (c.loop-value.invariant.sure tree H u owns is_open sound),
+          (c.loop-value.invariant.sure tree H most_trades u owns is_open fit sound),
     )

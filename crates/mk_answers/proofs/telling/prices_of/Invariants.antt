@@ -1,7 +1,7 @@
-use Rattle.std.proofs.Common.{◌≡◌, ◌<◌, List, length, false}
+use Rattle.std.proofs.Common.{◌≡◌, ℕ, ◌<◌, ◌≤◌, List, length, false}
 use Rattle.std.specs.List.{AllZip, range_with_len}
 use Rattle.mk_states.specs.Events.{holds}
-use Rattle.mk_exact.specs.History.{Entry}
+use Rattle.mk_exact.specs.History.{Entry, trades}
 use Rattle.mk_exact.specs.Weight.{cannot_come}
 use Rattle.mk_spread.specs.Told.{CoversValue}
 use Rattle.mk_tree.specs.Given.{GivenTree}
@@ -15,10 +15,11 @@ abbrev pub invariant-loop-value : goal.invariant-loop-value
 invariant-loop-value g l = record {
   kept : (m : Meaning) → g.P.Engine.stands_for l.fn.prices m → g.P.Engine.stands_for l.prices m;
   long : length (l.intervals).items ≡ l.value;
-  priced : (tree : GivenTree) (H : List Entry)
+  priced : (tree : GivenTree) (H : List Entry) (most_trades : ℕ)
       → g.P.Engine.stands_for l.fn.prices (weights_of l.net tree H)
-      → IsOpen l.net tree H → CanBeSpreadHere l.net tree H (spread_in l.asked)
-      → AllZip (CoversValue l.net H (spread_in l.asked)) (range_with_len 0 l.value)
+      → IsOpen l.net tree H → length (trades H) ≤ most_trades
+      → CanBeSpreadHere l.net tree H (spread_in l.asked)
+      → AllZip (CoversValue l.net H most_trades (spread_in l.asked)) (range_with_len 0 l.value)
       (l.intervals).items;
   comes : (tree : GivenTree) (H : List Entry)
       → g.P.Engine.stands_for l.fn.prices (weights_of l.net tree H)

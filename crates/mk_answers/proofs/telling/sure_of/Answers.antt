@@ -12,17 +12,17 @@ cash-requires-clause-range g c =
     c.args.points_per_bit c.requires.few_points
 
 pub returns-in-None-clause-sure : goal.returns-in-None-clause-sure
-returns-in-None-clause-sure g c = λ tree H u owns is_open sound.
+returns-in-None-clause-sure g c = λ tree H most_trades u owns is_open fit sound.
     let net = c.args.net.now in
     none_asked net H u c.args.asked.now c.event.result c.event.ensures.pairs
     (none_found net tree H u is_open c.event.result _ c.least.result
     (c.least.ensures.least (holding_of net tree H u) owns) c.in-None.is)
 
 pub returns-in-Some-clause-sure : goal.returns-in-Some-clause-sure
-returns-in-Some-clause-sure g c = λ tree H u owns is_open sound.
+returns-in-Some-clause-sure g c = λ tree H most_trades u owns is_open fit sound.
     let net = c.args.net.now in let ends = c.cash.result in
-    sure_asked net H u c.args.points_per_bit c.args.asked.now c.event.result ends
+    sure_asked net H most_trades u c.args.points_per_bit c.args.asked.now c.event.result ends
     c.event.ensures.pairs
     (sure net tree H u is_open c.event.result _ c.least.result
     (c.least.ensures.least (holding_of net tree H u) owns) c.in-Some.factor c.in-Some.is
-    (omega arith) sound c.args.points_per_bit (ends.0) (ends.1) c.cash.ensures.covers)
+    (omega arith) most_trades fit sound c.args.points_per_bit (ends.0) (ends.1) c.cash.ensures.covers)

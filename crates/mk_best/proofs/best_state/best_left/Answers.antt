@@ -1,6 +1,8 @@
-use Rattle.std.proofs.Common.{List, sym, subst, ap, ◌∙◌}
+use Rattle.std.proofs.Common.{List, length, sym, subst, ap, ◌∙◌}
 use Rattle.mk_net.specs.declared.words.Pair.{Pair}
+use Rattle.mk_net.specs.Bounds.{sharpness}
 use Rattle.mk_states.specs.Events.{holds, always}
+use Rattle.mk_exact.specs.History.{trades}
 use Rattle.mk_exact.specs.Prices.{CoversPrice}
 use Rattle.mk_exact.specs.Weight.{IsSmall, weight, total}
 use Rattle.mk_answers.proofs.Homes.{nothing_at_root}
@@ -102,7 +104,7 @@ returns g c = λ H h k few.
     best_found net H pairs found a.legal some c.in-Price.low c.in-Price.high
     c.certificate-value.result.1 c.certificate-value.result.0 c.in_ok-state.state
     (c.in_ok-state.ensures ∙ ap values_in c.deref-2.ensures.value)
-    (subst (λ (ps : List Pair). CoversPrice (IsSmall net H)
+    (subst (λ (ps : List Pair). CoversPrice (IsSmall net H) (sharpness (length (trades H)))
     (record { num = total net H (holds ps); den = total net H always }) c.in-Price.low
     c.in-Price.high) c.deref.ensures.value left.1)
     (c.certificate-value.ensures net H (weight net H found.values) (greatest net H always)

@@ -1,11 +1,14 @@
-use Rattle.std.proofs.Common.{refl}
+use Rattle.std.proofs.Common.{length, refl}
 use Rattle.mk_states.specs.Events.{holds, always}
+use Rattle.mk_net.specs.Bounds.{sharpness}
+use Rattle.mk_exact.specs.History.{trades}
 use Rattle.mk_exact.specs.Weight.{total, IsSmall}
+use Rattle.mk_exact.proofs.Sharp.{sharp_enough}
 use Rattle.mk_beliefs.specs.Meanings.{weights_of}
 use Rattle.mk_answers.proofs.Presence.{some_weight}
 use Rattle.mk_best.specs.inner.Engines.{learned}
 use Rattle.mk_best.proofs.Failing.{less_unless}
-use Rattle.mk_best.proofs.Shares.{left_in, few_learned, part_in, in_present, in_absent, covers_all}
+use Rattle.mk_best.proofs.Shares.{left_in, in_present, in_absent, covers_all, part_and_whole}
 use Rattle.mk_best.proofs.Sums.{total_narrow}
 use Rattle.mk_best.proofs.chances.chance_left.Goals as goal
 
@@ -27,8 +30,9 @@ returns-then-are_sure g c = λ H h few.
     let same = (c.are_sure.ensures.sure H (c.belief.ensures.kept (weights_of net tree H) h)).0
     c.if-are_sure.true in (
       some,
-      covers_all (IsSmall net H) (total net H (holds c.args.want.now)) (total net H always)
-          same some,
+      covers_all (IsSmall net H) (sharpness (length (trades H)))
+          (total net H (holds c.args.want.now)) (total net H always)
+          (sharp_enough (length (trades H))) same some,
     )
 
 pub share_of-low-requires : goal.share_of-low-requires
@@ -42,22 +46,15 @@ share_of-low-requires g c =
       history = H;
       inner = total net H (holds want);
       outer = total net H always;
-      are = record {
-        of_part =
-            part_in net H want c.belief-part.result
-            (left_in net tree (learned H want) a.legal (few_learned H want few) c.empty-2.result
-            c.belief-part.result c.empty-2.ensures
-            (c.belief-part.ensures.belief (weights_of net tree (learned H want))
-            (c.know_all.ensures net H later)));
-        of_whole = in_present c.belief.result c.in-Present.whole (IsSmall net H)
-            (total net H always) c.in-Present.is
-            (left_in net tree H a.legal few c.empty.result c.belief.result c.empty.ensures
-            (c.belief.ensures.belief (weights_of net tree H) h));
-        less = less_unless (total net H (holds want)) (total net H always) c.are_sure.result
-            (total_narrow net H always (holds want) (λ s e. refl))
-            (c.are_sure.ensures.sure H (c.belief.ensures.kept (weights_of net tree H) h)).1
-            c.if-are_sure.false;
-      };
+      are = part_and_whole net tree H want a.legal few c.empty.result c.empty-2.result
+          c.belief.result c.belief-part.result c.in-Present.whole c.empty.ensures
+          c.empty-2.ensures c.in-Present.is (c.belief.ensures.belief (weights_of net tree H) h)
+          (c.belief-part.ensures.belief (weights_of net tree (learned H want))
+          (c.know_all.ensures net H later))
+          (less_unless (total net H (holds want)) (total net H always) c.are_sure.result
+          (total_narrow net H always (holds want) (λ s e. refl))
+          (c.are_sure.ensures.sure H (c.belief.ensures.kept (weights_of net tree H) h)).1
+          c.if-are_sure.false);
     }
 
 pub returns : goal.returns
@@ -71,17 +68,14 @@ returns g c = λ H h few.
     (left_in net tree H a.legal few c.empty.result c.belief.result c.empty.ensures
     (c.belief.ensures.belief (weights_of net tree H) h)) in (
       some_weight c.in-Present.whole (total net H always) whole.encloses,
-      c.share_of-low.ensures net H (total net H (holds want)) (total net H always) (record {
-        of_part =
-            part_in net H want c.belief-part.result
-            (left_in net tree (learned H want) a.legal (few_learned H want few) c.empty-2.result
-            c.belief-part.result c.empty-2.ensures
-            (c.belief-part.ensures.belief (weights_of net tree (learned H want))
-            (c.know_all.ensures net H later)));
-        of_whole = whole;
-        less = less_unless (total net H (holds want)) (total net H always) c.are_sure.result
-            (total_narrow net H always (holds want) (λ s e. refl))
-            (c.are_sure.ensures.sure H (c.belief.ensures.kept (weights_of net tree H) h)).1
-            c.if-are_sure.false;
-      }),
+      c.share_of-low.ensures net H (total net H (holds want)) (total net H always)
+          (part_and_whole net tree H want a.legal few c.empty.result c.empty-2.result
+          c.belief.result c.belief-part.result c.in-Present.whole c.empty.ensures
+          c.empty-2.ensures c.in-Present.is (c.belief.ensures.belief (weights_of net tree H) h)
+          (c.belief-part.ensures.belief (weights_of net tree (learned H want))
+          (c.know_all.ensures net H later))
+          (less_unless (total net H (holds want)) (total net H always) c.are_sure.result
+          (total_narrow net H always (holds want) (λ s e. refl))
+          (c.are_sure.ensures.sure H (c.belief.ensures.kept (weights_of net tree H) h)).1
+          c.if-are_sure.false)),
     )

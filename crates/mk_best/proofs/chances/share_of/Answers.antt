@@ -1,5 +1,8 @@
-use Rattle.std.proofs.Common.{arith, subst}
+use Rattle.std.proofs.Common.{arith, length, subst}
+use Rattle.mk_net.specs.Bounds.{sharpness}
+use Rattle.mk_exact.specs.History.{trades}
 use Rattle.mk_exact.specs.Weight.{IsSmall}
+use Rattle.mk_exact.proofs.Sharp.{sharp_enough}
 use Rattle.mk_semiring.specs.declared.held.Held.{Held}
 use Rattle.mk_best.specs.inner.Engines.{ArePartAndWhole}
 use Rattle.mk_best.proofs.Shares.{covers_nothing, covers_part}
@@ -16,7 +19,8 @@ pub returns-in-Absent : goal.returns-in-Absent
 returns-in-Absent c = λ network H v w are.
     let here = subst (λ (b : Held). ArePartAndWhole network H b c.args.whole.now v w) c.in-Absent.is
     are in
-    covers_nothing (IsSmall network H) v w here.of_part.encloses (omega (arith, here.less))
+    covers_nothing (IsSmall network H) (sharpness (length (trades H))) v w
+    (sharp_enough (length (trades H))) here.of_part.encloses (omega (arith, here.less))
 
 pub returns-in-Present : goal.returns-in-Present
 returns-in-Present c = λ network H v w are.

@@ -1,6 +1,8 @@
 use Rattle.std.proofs.Common.{◌+◌, ◌*◌, ◌^◌, ◌<◌, ◌≤◌, ◌⊎◌, inl, inr, refl, le_trans}
 use Rattle.std.specs.Bool.{⊤}
+use Rattle.mk_net.specs.Bounds.{sharpness}
 use Rattle.mk_exact.specs.Prices.{CoversPrice}
+use Rattle.mk_exact.proofs.Sharp.{sharp_enough}
 use Rattle.mk_judge.specs.Compared.{LeavesOpen}
 use Rattle.mk_judge.specs.Judged.{Judges, both}
 use Rattle.mk_judge.proofs.Judging.{judges_at_most, judges_above, judges_four, judges_as}
@@ -8,7 +10,7 @@ use Rattle.mk_judge.proofs.Pricing.{rounded_covers, covers_rounded}
 use Rattle.mk_judge.proofs.price.rounded.Goals as goal
 
 pub returns : goal.returns
-returns c = λ price is.
+returns c = λ price most_trades is.
     let part = c.args.part.now in
     let whole = c.args.whole.now in
     let low = c.args.low in
@@ -25,10 +27,10 @@ returns c = λ price is.
     let N : Type 0 = LeavesOpen part whole n (high * (price.den * 1)) in
     let O : Type 0 = LeavesOpen part whole ((low + 1) * (price.den * 1)) n in
     let T : Type 0 = LeavesOpen part whole n (before * (price.den * 1)) in
-    let covers : P × Q × R × S → CoversPrice ⊤ price low high =
-    (λ all. rounded_covers price low high some is.less c.requires.at_most (record { below = all.0; above = all.1; floor = all.2; ceiling = rw (← same) (all.3) })) in
-    let close : CoversPrice ⊤ price low high → P × Q × R × S =
-    (λ h. let k = covers_rounded price low high some is.less h in (k.below, k.above, k.floor, rw same k.ceiling)) in
+    let covers : P × Q × R × S → CoversPrice ⊤ (sharpness most_trades) price low high =
+    (λ all. rounded_covers price low high some is.less (sharpness most_trades) (sharp_enough most_trades) c.requires.at_most (record { below = all.0; above = all.1; floor = all.2; ceiling = rw (← same) (all.3) })) in
+    let close : CoversPrice ⊤ (sharpness most_trades) price low high → P × Q × R × S =
+    (λ h. let k = covers_rounded price low high some is.less (sharpness most_trades) h in (k.below, k.above, k.floor, rw same k.ceiling)) in
     let never : M ⊎ (N ⊎ (O ⊎ T)) → ⊥ =
     (λ known. elim known [
       | inl m ↦ m.rounded (is.part_exact refl) (is.whole_exact refl)
@@ -45,4 +47,4 @@ returns c = λ price is.
     (rw c.above-ceiling.ensures (judges_above c.compare_above-2.result _ _ T (c.compare_above-2.ensures price.num price.den is.part_holds is.whole_holds))) in
     rw (c.and-3.ensures, c.and-2.ensures, c.and.ensures)
     (judges_as (both (both (both c.at_most-below.result c.at_most-above.result) c.above-floor.result) c.above-ceiling.result)
-    (P × Q × R × S) (CoversPrice ⊤ price low high) (M ⊎ (N ⊎ (O ⊎ T))) ⊥ covers close never four)
+    (P × Q × R × S) (CoversPrice ⊤ (sharpness most_trades) price low high) (M ⊎ (N ⊎ (O ⊎ T))) ⊥ covers close never four)

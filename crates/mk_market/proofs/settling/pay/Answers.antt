@@ -8,7 +8,7 @@ payment_of-requires-clause-held g c = c.loop-user.invariant.held
 pub loop-user-preserved : goal.loop-user-preserved
 loop-user-preserved g c =
     let made = c.payment_of in
-    one_paid g.A.Engine.stands_for c.args.file.now.net c.args.file.now.tree c.args.journal.now.history c.args.file.now.points_per_bit c.args.users.now c.loop-user.user
+    one_paid g.A.Engine.stands_for c.args.file.now.net c.args.file.now.tree c.args.journal.now.history c.args.file.now.max_trades c.args.file.now.points_per_bit c.args.users.now c.loop-user.user
     c.loop-user.users made.new.users c.loop-user.payments c.push.new.self made.result
     (omega (arith, c.loop-user-test.true, c.count-user-end.ensures.count)) c.loop-user.invariant
     made.ensures.held made.ensures.names made.ensures.quotes made.ensures.user

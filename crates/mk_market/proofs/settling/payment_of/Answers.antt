@@ -35,8 +35,8 @@ returns-clause-payment g c = λ sound state name one at.
     record {
       name = some_is c.name.result name
           (sym c.name.ensures ∙ ap (λ (names : List (List ℕ)). slice_get names c.args.user) (names_stay c.learn.new.users c.args.user c.least_of-factor.new.assets ∙ c.learn.ensures.names) ∙ at);
-      covers = covers_factor net tree H c.requires.is_open c.args.user state one sound c.least_of-factor.result c.args.file.now.points_per_bit (c.cash-low.result.0) (c.cash-low.result.1)
-          (λ gain is_least. c.least_of-factor.ensures.least net tree H c.args.user gain (c.learn.ensures.learnt c.assets.result.now c.assets.ensures.value) c.requires.is_open is_least)
+      covers = covers_factor net tree H c.requires.is_open c.args.user state one sound c.least_of-factor.result c.args.file.now.max_trades c.args.file.now.points_per_bit (c.cash-low.result.0) (c.cash-low.result.1)
+          (λ gain is_least. c.least_of-factor.ensures.least net tree H c.args.file.now.max_trades c.args.user gain (c.learn.ensures.learnt c.assets.result.now c.assets.ensures.value) c.requires.is_open c.requires.trades is_least)
           (c.least_of-factor.ensures.idle net tree H c.args.user
           (c.learn.ensures.learnt c.assets.result.now c.assets.ensures.value)
           c.requires.is_open)

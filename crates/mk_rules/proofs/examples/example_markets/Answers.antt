@@ -11,7 +11,7 @@ use Rattle.mk_rules.proofs.examples.example_markets.Goals as goal
 market : (network : List Variable) (cliques : List (List ℕ)) (trades : ℕ) → IsNetwork network
     → with_zeros network ≡ []
     → AllByRecursion (AllByRecursion (λ x. x < length network)) cliques
-    → sum_by (choices (sizes network)) cliques ≤ 32768 → 1 ≤ trades → trades ≤ 65536
+    → sum_by (choices (sizes network)) cliques ≤ 32768 → 1 ≤ trades → trades ≤ 1000000
     → IsMarket (record {
       network = network;
       cliques = cliques;

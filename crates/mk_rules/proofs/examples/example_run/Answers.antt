@@ -1,4 +1,4 @@
-use Rattle.std.proofs.Common.{Some, inl, inr, refl, arith}
+use Rattle.std.proofs.Common.{◌^◌, Some, inl, inr, refl, arith}
 use Rattle.mk_exact.specs.Weight.{IsSmall}
 use Rattle.mk_exact.specs.Factors.{HoldsNoTrade, Fraction, factor_with}
 use Rattle.mk_exact.specs.Limits.{Inside, IsFairAndSolvent}
@@ -20,7 +20,7 @@ miss_units = omega arith
 fair : AreSides coin deposited_one 0 heads even even → IsFairPair coin deposited_one 0 heads 600000 1319413953331 879609302220
 fair sides = record { hit = even; miss = even; sides = sides; hit_units = hit_units; miss_units = miss_units }
 
-covers : CoversPrice (IsSmall coin heads_taken) (exact_price coin heads_taken heads) 6000000000 6000000001
+covers : CoversPrice (IsSmall coin heads_taken) (2 ^ 42) (exact_price coin heads_taken heads) 6000000000 6000000001
 covers = omega arith
 
 outside : Inside (Some (250000, 750000)) 750001 → ⊥
@@ -39,14 +39,14 @@ beyond = record { outside = outside; printed = refl }
 traded : AreSides coin deposited_one 0 heads even even → IsTrade coin deposited_one 0 heads 600000 (Traded 1319413953331 879609302220 3)
 traded sides = record { hit = 1319413953331; miss = 879609302220; printed = refl; fair = fair sides }
 
-price : IsPrice coin heads_taken heads (Priced 6000000000 6000000001)
+price : IsPrice coin heads_taken 1000 heads (Priced 6000000000 6000000001)
 price = record { low = 6000000000; high = 6000000001; printed = refl; covers = covers }
 
 least : Fraction
 least = factor_with heads_taken 0 879609302220
 
-short : IsMost (IsSmall coin heads_taken) (HoldsNoTrade heads_taken 0) least 0
-    → IsShort (IsSmall coin heads_taken) (HoldsNoTrade heads_taken 0) least 1 (Refused (Short 0))
+short : IsMost (IsSmall coin heads_taken) (HoldsNoTrade heads_taken 0) (2 ^ 42) least 0
+    → IsShort (IsSmall coin heads_taken) (HoldsNoTrade heads_taken 0) (2 ^ 42) least 1 (Refused (Short 0))
 short most = record { most = 0; less = omega arith; is_most = most; printed = refl }
 
 pub returns : goal.returns

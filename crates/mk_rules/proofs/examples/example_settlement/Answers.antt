@@ -1,4 +1,4 @@
-use Rattle.std.proofs.Common.{◌≡◌, ℕ, List, [], ◌∷◌, get_or, refl, sym, ap, subst, arith}
+use Rattle.std.proofs.Common.{◌≡◌, ℕ, ◌^◌, List, [], ◌∷◌, get_or, refl, sym, ap, subst, arith}
 use Rattle.std.specs.List.{AllZip, enumerate_from}
 use Rattle.mk_exact.specs.History.{users}
 use Rattle.mk_exact.specs.Weight.{IsSmall}
@@ -19,7 +19,7 @@ abbrev Small : Type 0
 Small = IsSmall coin heads_up
 
 alice_covers : IsCash (factor heads_taken 0 (0 ∷ [])) 100 126
-    → CoversCash Small (HoldsNoTrade heads_up 0) (factor heads_up 0 (0 ∷ [])) 100 126 126
+    → CoversCash Small (HoldsNoTrade heads_up 0) (2 ^ 42) (factor heads_up 0 (0 ∷ [])) 100 126 126
 alice_covers h = record {
   cash = 126;
   is_cash = h;
@@ -30,7 +30,7 @@ alice_covers h = record {
   exact = λ e. (refl, refl);
 }
 
-bob_covers : CoversCash Small (HoldsNoTrade heads_up 1) (factor heads_up 1 (0 ∷ [])) 100 0 0
+bob_covers : CoversCash Small (HoldsNoTrade heads_up 1) (2 ^ 42) (factor heads_up 1 (0 ∷ [])) 100 0 0
 bob_covers = record {
   cash = 0;
   is_cash = record { covered = omega arith; greatest = omega arith };
@@ -42,7 +42,7 @@ bob_covers = record {
 }
 
 listed : IsCash (factor heads_taken 0 (0 ∷ [])) 100 126
-    → IsSettlement coin heads_up 100 (settled_with
+    → IsSettlement coin heads_up 1000 100 (settled_with
     (paying alice 126 126 126 ∷ paying bob 0 0 0 ∷ []))
 listed h = record {
   state = 0 ∷ [];
@@ -70,14 +70,14 @@ payments_in _ = []
 
 -- what the payments of an allowed settlement are
 are_paid : (payments : List Payment) → IsSettling coin_market heads_up (settled_with payments)
-    → AllZip (IsPayment coin heads_up 100 (0 ∷ [])) (enumerate_from 0 (users heads_up)) payments
+    → AllZip (IsPayment coin heads_up 1000 100 (0 ∷ [])) (enumerate_from 0 (users heads_up)) payments
 unfolding payments_in
 are_paid payments settling =
     let h = settling.listed (omega arith) in
     let state : h.state ≡ 0 ∷ [] = ap (λ (states : List (List ℕ)). get_or states 0 []) (sym h.one_state) in
-    subst (λ (s : List ℕ). AllZip (IsPayment coin heads_up 100 s)
+    subst (λ (s : List ℕ). AllZip (IsPayment coin heads_up 1000 100 s)
     (enumerate_from 0 (users heads_up)) payments) state
-    (subst (λ (ps : List Payment). AllZip (IsPayment coin heads_up 100 h.state)
+    (subst (λ (ps : List Payment). AllZip (IsPayment coin heads_up 1000 100 h.state)
     (enumerate_from 0 (users heads_up)) ps) (sym (ap payments_in h.printed)) h.paid)
 
 pub returns : goal.returns

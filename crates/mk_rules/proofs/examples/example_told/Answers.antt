@@ -20,38 +20,38 @@ sure : Reply → List (Option (ℕ × ℕ))
 sure (Positioned intervals) = intervals.items
 sure _ = []
 
-cover : (xs : List (ℕ × ℕ)) → ArePrices coin [] over_coin (prices xs) →
-    ArePricesOf coin [] over_coin xs
+cover : (xs : List (ℕ × ℕ)) → ArePrices coin [] 1000 over_coin (prices xs) →
+    ArePricesOf coin [] 1000 over_coin xs
 unfolding said
-cover xs h = subst (ArePricesOf coin [] over_coin) (sym (ap said h.printed)) h.covers
+cover xs h = subst (ArePricesOf coin [] 1000 over_coin) (sym (ap said h.printed)) h.covers
 
 cover_sure : (xs : List (Option (ℕ × ℕ))) →
-    IsPosition coin heads_taken 0 100 over_coin (position xs) →
-    IsPositionOf coin heads_taken 0 100 over_coin xs
+    IsPosition coin heads_taken 1000 0 100 over_coin (position xs) →
+    IsPositionOf coin heads_taken 1000 0 100 over_coin xs
 unfolding sure
 cover_sure xs h =
-    subst (IsPositionOf coin heads_taken 0 100 over_coin) (sym (ap sure h.printed)) h.covers
+    subst (IsPositionOf coin heads_taken 1000 0 100 over_coin) (sym (ap sure h.printed)) h.covers
 
-first_half : CoversValue coin [] over_coin 0 half
+first_half : CoversValue coin [] 1000 over_coin 0 half
 first_half = search rules
 
-second_half : CoversValue coin [] over_coin 1 half
+second_half : CoversValue coin [] 1000 over_coin 1 half
 second_half = search rules
 
-halves : ArePrices coin [] over_coin (prices (half ∷ half ∷ []))
+halves : ArePrices coin [] 1000 over_coin (prices (half ∷ half ∷ []))
 halves = record {
   intervals = record { items = half ∷ half ∷ [] };
   printed = refl;
   covers = (first_half, (second_half, tt));
 }
 
-not_narrow : ArePrices coin [] over_coin (prices (half ∷ (4999999999, 5000000000) ∷ [])) → ⊥
+not_narrow : ArePrices coin [] 1000 over_coin (prices (half ∷ (4999999999, 5000000000) ∷ [])) → ⊥
 not_narrow h =
     let second = (cover (half ∷ (4999999999, 5000000000) ∷ []) h).1.0 in
     omega (arith, second.floor (omega arith))
 
 both_come : (ends : Option (ℕ × ℕ)) →
-    IsPosition coin heads_taken 0 100 over_coin (position (ends ∷ None ∷ [])) → ⊥
+    IsPosition coin heads_taken 1000 0 100 over_coin (position (ends ∷ None ∷ [])) → ⊥
 both_come ends h = let none = (cover_sure (ends ∷ None ∷ []) h).1.0 in cc
 
 pub returns : goal.returns

@@ -25,7 +25,7 @@ nearer : AreNearCash (2 ^ 59) least 100 67 67
 unfolding least
 nearer = record { low_near = omega arith; high_near = omega arith }
 
-covers : IsCash least 100 67 → CoversCash Small Idle least 100 67 67
+covers : IsCash least 100 67 → CoversCash Small Idle (2 ^ 42) least 100 67 67
 covers h = record {
   cash = 67;
   is_cash = h;
@@ -44,7 +44,7 @@ high_far : (low : ℕ) → AreNearCash (2 ^ 42) least 100 low 68 → ⊥
 unfolding least
 high_far low h = omega (arith, h.high_near)
 
-worst : IsCash least 100 67 → IsWorst Small Idle least 100 (Worsted 67 67)
+worst : IsCash least 100 67 → IsWorst Small Idle (2 ^ 42) least 100 (Worsted 67 67)
 worst h = record { low = 67; high = 67; printed = refl; covers = covers h }
 
 low_in : Reply → ℕ
@@ -56,12 +56,12 @@ high_in (Worsted low high) = high
 high_in _ = 0
 
 -- the interval that a reply prints is the one that covers
-covered : (low high : ℕ) → (h : IsWorst Small Idle least 100 (Worsted low high))
-    → CoversCash Small Idle least 100 low high
+covered : (low high : ℕ) → (h : IsWorst Small Idle (2 ^ 42) least 100 (Worsted low high))
+    → CoversCash Small Idle (2 ^ 42) least 100 low high
 unfolding low_in high_in
-covered low high h = subst (λ (n : ℕ). CoversCash Small Idle least 100 low n)
+covered low high h = subst (λ (n : ℕ). CoversCash Small Idle (2 ^ 42) least 100 low n)
     (sym (ap high_in h.printed))
-    (subst (λ (n : ℕ). CoversCash Small Idle least 100 n h.high) (sym (ap low_in h.printed))
+    (subst (λ (n : ℕ). CoversCash Small Idle (2 ^ 42) least 100 n h.high) (sym (ap low_in h.printed))
     h.covers)
 
 pub returns : goal.returns

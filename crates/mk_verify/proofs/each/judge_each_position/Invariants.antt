@@ -14,7 +14,9 @@ abbrev pub invariant-loop-value : goal.invariant-loop-value
 invariant-loop-value l =
     (market : Market) (H : List Entry) (u : ℕ) (spread : SpreadAsked)
     → TellsSmall l.small market H → IsSound market.network H
-    → l.points_per_bit ≡ market.points_per_bit → AreSureFactorsOf market H u spread l.factors
-    → JudgesBelow l.told (IsSureOf market.network H u market.points_per_bit spread)
+    → l.most_trades ≡ market.max_trades → l.points_per_bit ≡ market.points_per_bit
+    → AreSureFactorsOf market H u spread l.factors
+    → JudgesBelow l.told
+    (IsSureOf market.network H market.max_trades u market.points_per_bit spread)
     (λ value ends. IsSomeAnd ends
     (IsLeastCashOpen market H u (with_target (asked_of spread value)))) l.judged l.value

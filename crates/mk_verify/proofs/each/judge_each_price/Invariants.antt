@@ -1,4 +1,4 @@
-use Rattle.std.specs.Prelude.{List}
+use Rattle.std.specs.Prelude.{◌≡◌, List}
 use Rattle.mk_exact.specs.History.{Entry}
 use Rattle.mk_exact.specs.Market.{Market}
 use Rattle.mk_spread.specs.Spreads.{SpreadAsked, asked_of}
@@ -11,6 +11,6 @@ use Rattle.mk_verify.proofs.each.judge_each_price.Given as goal
 abbrev pub invariant-loop-value : goal.invariant-loop-value
 invariant-loop-value l =
     (market : Market) (H : List Entry) (spread : SpreadAsked) → TellsSmall l.small market H
-    → AreBoundsOfPrices market H spread l.bounds
-    → JudgesBelow l.told (CoversValue market.network H spread)
+    → l.most_trades ≡ market.max_trades → AreBoundsOfPrices market H spread l.bounds
+    → JudgesBelow l.told (CoversValue market.network H market.max_trades spread)
     (λ value ends. IsPriceOpen market H (asked_of spread value) ends) l.judged l.value

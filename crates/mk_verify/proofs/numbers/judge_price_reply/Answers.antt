@@ -10,8 +10,9 @@ returns-in-Price-clause-judged g c =
     let found = c.in-Ok.ensures.evidence in
     judges_same market H (Price c.args.question.now) c.args.reply.now _ c.judge_price.result
     c.in-Price.is
-    (price_told market H c.args.question.now c.in-Ok.bounds c.args.small c.in-Price.low
-    c.in-Price.high c.judge_price.result found.0 found.1 c.requires.small
+    (price_told market H c.args.question.now c.in-Ok.bounds c.args.small c.max_trades.result
+    c.in-Price.low c.in-Price.high c.judge_price.result found.0 found.1 c.requires.small
+    (rw c.price_evidence.ensures.same at c.max_trades.ensures)
     (record {
       allowed = says.allowed;
       wrong = says.wrong;

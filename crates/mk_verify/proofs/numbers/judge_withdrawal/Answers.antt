@@ -26,7 +26,8 @@ returns-in-Some-clause-judged g c =
     judges_same market H (Withdraw c.args.name.now c.args.bits) c.args.reply.now _
     c.judge_most.result told.1
     (short_told market H c.args.name.now c.args.bits found.0 c.in-Ok.factor c.args.small
-    c.in-Some.most c.judge_most.result told.0 found.1 c.requires.small
+    c.max_trades.result c.in-Some.most c.judge_most.result told.0 found.1 c.requires.small
+    (rw c.withdrawal_evidence.ensures.same at c.max_trades.ensures)
     (record { allowed = says.allowed; wrong = says.wrong; unclear = says.unclear }))
 
 pub returns-in-None-clause-judged : goal.returns-in-None-clause-judged

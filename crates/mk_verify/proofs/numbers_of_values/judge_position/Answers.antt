@@ -18,6 +18,7 @@ returns-in-Position-clause-judged g c =
     let H = c.args.market.now.standing.history in
     let u = user_number H c.args.name.now in
     let found = c.in-Ok.ensures.evidence in
+    let trades = rw c.position_evidence.ensures.same at c.max_trades.ensures in
     let points = rw c.position_evidence.ensures.same at c.points_per_bit.ensures.points in
     let judged = rw (c.as_slice.ensures.value, c.as_slice-in-Position.ensures.value) at
     (c.judge_each_position.ensures market H u) in
@@ -25,4 +26,4 @@ returns-in-Position-clause-judged g c =
     c.args.reply.now _ c.judge_each_position.result c.in-Position.is
     (position_told market H c.args.name.now c.args.variable.now c.args.condition.now found.0
     c.in-Ok.factors.items c.in-Position.intervals c.judge_each_position.result found.1
-    (λ spread sound its. judged spread c.requires.small sound points its))
+    (λ spread sound its. judged spread c.requires.small sound trades points its))

@@ -30,7 +30,8 @@ returns-clause-priced g c =
       market = refl;
       allowed = λ sound. price_allowed g.P.Engine.stands_for g.A.Engine.stands_for g.A.Engine.plan_for _ _ _ _ _ _ _ _ _ c.self.invariant c.args.question.now found.asked found.ensures.question
           low high (sym found.ensures.refusal)
-          (λ tree H stands open_for answered. subst (λ (o : Option (ℕ × ℕ)). IsPriceFor i.file.net H found.asked o) is (c.price_of.ensures.price tree H stands open_for answered));
+          (λ tree H most_trades stands open_for fit answered. subst (λ (o : Option (ℕ × ℕ)). IsPriceFor i.file.net H most_trades found.asked o) is
+          (c.price_of.ensures.price tree H most_trades stands open_for fit answered));
       next = price_next g.P.Engine.stands_for g.A.Engine.stands_for g.A.Engine.plan_for _ _ _ _ _ _ _ _ _ c.self.invariant c.args.question.now low high;
       paid = λ u. refl;
     }))

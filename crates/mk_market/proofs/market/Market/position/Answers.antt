@@ -85,9 +85,9 @@ refuse_condition-requires g c =
     (known_of i.file.net c.as_slice-words.result.now c.args.condition.now.items
     c.as_slice-words.ensures.value known)
     found.ensures.question.answered found.request.home found.ensures.home
-    (c.in-None.ensures.position i.file.tree H found.request.user
+    (c.in-None.ensures.position i.file.tree H i.file.max_trades found.request.user
     (c.learn.ensures.learnt c.assets.result.now c.assets.ensures.value)
-    opened found.ensures.question.answered)
+    opened kept.safe.bounded.few_trades found.ensures.question.answered)
 
 pub invariant_of-self-in-None : goal.invariant_of-self-in-None
 invariant_of-self-in-None g c =
@@ -121,9 +121,9 @@ returns-in-Some g c =
       allowed = λ sound. position_allowed i.file (standing_of i.journal c.learn.new.users) c.args.variable.now
           c.args.condition.now spread question
           c.args.name.now found.request.user found.ensures.user c.in-Some.intervals none
-          (c.in-Some.ensures.position i.file.tree H found.request.user
+          (c.in-Some.ensures.position i.file.tree H i.file.max_trades found.request.user
           (c.learn.ensures.learnt c.assets.result.now c.assets.ensures.value)
-          opened found.ensures.question.answered) sound;
+          opened kept.safe.bounded.few_trades found.ensures.question.answered) sound;
       next = same_standing i.journal c.learn.new.users found.request.user c.assets.result.now
           c.position_of.new.assets c.assets.ensures.value
           ∙ none_appended (market_of i.file) (standing_of i.journal c.learn.new.users) command
@@ -155,9 +155,9 @@ returns-in-None g c =
     } in
     let refused = c.refuse_condition.ensures.refusal i.file.net i.file.tree H
     kept.prices_stand opened by
-    (c.in-None.ensures.position i.file.tree H found.request.user
+    (c.in-None.ensures.position i.file.tree H i.file.max_trades found.request.user
     (c.learn.ensures.learnt c.assets.result.now c.assets.ensures.value) opened
-    found.ensures.question.answered) in
+    kept.safe.bounded.few_trades found.ensures.question.answered) in
     rw (← c.self.view_is) (answered_learnt i.file i.ledger i.journal i.users c.learn.new.users c.learn.ensures.quotes _ command (Refused c.refuse_condition.result) (record {
       market = refl;
       allowed = λ sound. position_stopped i.file (standing_of i.journal c.learn.new.users) c.args.variable.now

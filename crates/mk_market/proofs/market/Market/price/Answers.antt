@@ -35,7 +35,8 @@ refuse_condition-requires g c =
     let i = c.self.inside in
     let found = c.in_ok-asked in
     let opened = is_open g.P.Engine.stands_for g.A.Engine.stands_for g.A.Engine.plan_for i.file i.prices i.rows i.plan i.users i.ledger i.journal i.payments i.till c.self.invariant in
-    let price = c.in-None.ensures.price i.file.tree i.journal.history c.self.invariant.prices_stand opened found.ensures.question.answered in
+    let price = c.in-None.ensures.price i.file.tree i.journal.history i.file.max_trades c.self.invariant.prices_stand opened
+    c.self.invariant.safe.bounded.few_trades found.ensures.question.answered in
     can_refuse_condition g.P.Engine.stands_for c.price_of.new.prices i.file.net i.file.tree i.journal.history
     (c.price_of.ensures.kept (weights_of i.file.net i.file.tree i.journal.history) c.self.invariant.prices_stand) opened c.args.question.now found.asked
     found.ensures.question.named (price_known i.file i.journal.history c.args.question.now found.ensures.refusal) found.ensures.question.answered
@@ -57,7 +58,8 @@ returns-in-None g c =
     let i = c.self.inside in
     let found = c.in_ok-asked in
     let opened = is_open g.P.Engine.stands_for g.A.Engine.stands_for g.A.Engine.plan_for i.file i.prices i.rows i.plan i.users i.ledger i.journal i.payments i.till c.self.invariant in
-    let price = c.in-None.ensures.price i.file.tree i.journal.history c.self.invariant.prices_stand opened found.ensures.question.answered in
+    let price = c.in-None.ensures.price i.file.tree i.journal.history i.file.max_trades c.self.invariant.prices_stand opened
+    c.self.invariant.safe.bounded.few_trades found.ensures.question.answered in
     rw (← c.self.view_is) (price_stopped i.file i.ledger i.journal i.users i.users refl
     c.args.question.now c.refuse_condition.result found.ensures.refusal
     (impossible_by i.file.net i.journal.history c.args.question.now found.asked

@@ -54,7 +54,8 @@ refuse_condition-requires g c =
     (known_of i.file.net c.as_slice-words.result.now c.args.condition.now.items
     c.as_slice-words.ensures.value known)
     found.ensures.question.answered found.home found.ensures.home
-    (c.in-None.ensures.prices i.file.tree H c.self.invariant.prices_stand opened
+    (c.in-None.ensures.prices i.file.tree H i.file.max_trades c.self.invariant.prices_stand opened
+    c.self.invariant.safe.bounded.few_trades
     found.ensures.question.answered)
 
 pub returns-in-Some : goal.returns-in-Some
@@ -72,7 +73,8 @@ returns-in-Some g c =
       allowed = λ sound. prices_allowed i.file (standing_of i.journal i.users) c.args.variable.now
           c.args.condition.now spread question
           c.in-Some.intervals none
-          (c.in-Some.ensures.prices i.file.tree H c.self.invariant.prices_stand opened
+          (c.in-Some.ensures.prices i.file.tree H i.file.max_trades c.self.invariant.prices_stand opened
+          c.self.invariant.safe.bounded.few_trades
           found.ensures.question.answered);
       next = none_appended (market_of i.file) (standing_of i.journal i.users) command
           (Told c.in-Some.intervals) refl refl;
@@ -100,7 +102,8 @@ returns-in-None g c =
     let refused = c.refuse_condition.ensures.refusal i.file.net i.file.tree H
     (c.prices_of.ensures.kept (weights_of i.file.net i.file.tree H)
     c.self.invariant.prices_stand) opened by
-    (c.in-None.ensures.prices i.file.tree H c.self.invariant.prices_stand opened
+    (c.in-None.ensures.prices i.file.tree H i.file.max_trades c.self.invariant.prices_stand opened
+    c.self.invariant.safe.bounded.few_trades
     found.ensures.question.answered) in
     rw (← c.self.view_is) (record {
       market = refl;
