@@ -9,16 +9,10 @@ use Rattle.mk_states.specs.Events.{holds}
 abbrev pub unit : ℕ
 unit = 2 ^ 40
 
-abbrev pub variable_of : TradeRatio → ℕ
-variable_of r = r.variable
-
-abbrev pub condition_of : TradeRatio → List Pair
-condition_of r = r.condition
-
 -- the units for each value of its variable
 abbrev pub units_of : TradeRatio → ℕ → ℕ
 units_of r value = slice_index r.factors value
 
 -- the units for the state's value where the condition holds, and one whole unit where it does not
 abbrev pub ratio_at : TradeRatio → List ℕ → ℕ
-ratio_at r s = if holds (condition_of r) s then units_of r (value_at s (variable_of r)) else unit
+ratio_at r s = if holds r.condition s then units_of r (value_at s r.variable) else unit

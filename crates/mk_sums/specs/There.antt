@@ -6,7 +6,7 @@ use Rattle.mk_net.specs.declared.words.Pair.{Pair}
 use Rattle.mk_net.specs.Asked.{TradeRatio}
 use Rattle.mk_net.specs.Network.{Variable, sizes}
 use Rattle.mk_net.specs.Named.{variable_at}
-use Rattle.mk_states.specs.Ratios.{unit, units_of, variable_of, condition_of}
+use Rattle.mk_states.specs.Ratios.{unit, units_of}
 
 -- the number of the row for the parents' values, the last parent's value changing fastest
 abbrev pub row_there : List ℕ → List ℕ → (ℕ → ℕ) → ℕ
@@ -28,4 +28,4 @@ holds_there event a = list_all (λ (p : Pair). a p.variable == p.value) event
 
 -- the units of a trade
 abbrev pub ratio_there : TradeRatio → (ℕ → ℕ) → ℕ
-ratio_there r a = if holds_there (condition_of r) a then units_of r (a (variable_of r)) else unit
+ratio_there r a = if holds_there r.condition a then units_of r (a r.variable) else unit
