@@ -148,7 +148,7 @@ def check_counts(document, places):
         if not low <= count <= high:
             fail(f"{what}: {count:,}, where a market takes {low:,} to {high:,}", line)
     within(document["points_per_bit"], 1, MILLION, "points_per_bit", places.key("points_per_bit"))
-    within(document["max_trades"], 1, 65_536, "max_trades", places.key("max_trades"))
+    within(document["max_trades"], 1, MILLION, "max_trades", places.key("max_trades"))
     for key, most in (("max_users", 65_536), ("max_transfers", MILLION)):
         within(document.get(key, USUAL[key]), 1, most, key, places.key(key))
     within(len(document["variable"]), 1, 256, "questions", None)

@@ -37,7 +37,7 @@ class Contradiction(Refusal):
 
 @dataclass(frozen=True, slots=True)
 class Chance:
-    """The exact chance lies between both ends, which are as near as those of a price."""
+    """The exact chance lies between both ends, which are at least as near as those of a price."""
 
     low: Decimal
     high: Decimal

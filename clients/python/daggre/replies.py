@@ -61,7 +61,7 @@ class Withdrawn(Reply):
 @dataclass(frozen=True, slots=True)
 class Price(Reply):
     """`price`: the exact price lies between both ends. They are its floor and ceiling in units of 10^-10; an end may be a unit off
-    where the price is within one part in 2^42 of a unit."""
+    where the price is within one part in 2^42 of a unit, or in 2^39 where the market's file asks for more than 65,536 trades."""
 
     low: Decimal
     high: Decimal
