@@ -3,15 +3,13 @@ use Rattle.std.specs.Prelude.{◌≡◌, ◌≢◌, ℕ, zero, suc, ◌+◌, ◌
 use Rattle.std.specs.Int.{bit_at, bit_not, trailing_zeros, w128}
 use Rattle.std.proofs.Common.{refl, sym, ap, ◌∙◌, arith}
 use Rattle.std.proofs.lemmas.Bool.{eqb-true, eq-eqb, ltb-true, ltb-false}
-use Rattle.std.proofs.lemmas.Nat.Bits.{bit_at_and, bit_at_or, bit_at_not, bit_at-trailing_zeros, bit_at-lt, bit_at-zero, same_from_bits, bit_at_above, bit_at_set_same, bit_at_set_other}
-use Rattle.std.proofs.Math.Pow.{pow-lt}
-use Rattle.std.proofs.Math.Nat.{mod-eq_of_lt}
-use Rattle.mk_net.specs.declared.sets.VarSet.{VarSet}
-use Rattle.mk_net.specs.Sets.{is_member, IsSubset, with_member}
+use Rattle.std.proofs.lemmas.Nat.Bits.{bit_at_and, bit_at_or, bit_at_not, bit_at-trailing_zeros, bit_at-lt, bit_at-zero, same_from_bits}
+use Rattle.mk_net.specs.declared.sets.VarSet.TheInside.{Inside}
+use Rattle.mk_net.specs.inner.KeptSets.{has_bit, is_kept, no_bit, no_bit_above, bit_more, kept_low, kept_high, by_size}
 
--- a word's bit, as a test
-abbrev pub has_bit : ℕ → ℕ → Bool
-has_bit word i = bit_at word i == 1
+-- each variable that the words of one set hold those of another hold
+abbrev pub IsKeptPart : Inside → Inside → Type 0
+IsKeptPart part whole = (x : ℕ) → is_kept part x ≡ true → is_kept whole x ≡ true
 
 both_bits : (a b : ℕ) → a < 2 → b < 2 → min a b ≡ a → a ≡ 1 → b ≡ 1
 both_bits a b p q h e = omega (arith, p, q, h, e)
@@ -39,36 +37,6 @@ bit_zero (suc (suc a)) p h = absurd (omega (arith, p))
 pub none_of_bits : (a : ℕ) → ((i : ℕ) → has_bit a i ≡ false) → a ≡ 0
 none_of_bits a h = same_from_bits a 0 (λ i. bit_zero (bit_at a i) (bit_at-lt a i) (h i) ∙ sym (bit_at-zero i))
 
-pub no_bit : (i : ℕ) → has_bit 0 i ≡ false
-no_bit i = rw (bit_at-zero i) refl
-
--- a word of 128 bits has none from 128 on
-pub no_bit_above : (a i : ℕ) → a < 2 ^ 128 → 128 ≤ i → has_bit a i ≡ false
-no_bit_above a i h past = rw (bit_at_above a 128 i h past) refl
-
--- one bit more
-pub bit_more : (a k i : ℕ) → k < 128 → has_bit (bit_or a (1 * 2 ^ k % 2 ^ 128)) i ≡ (i == k) || has_bit a i
-bit_more a k i h = by_case (i == k) refl
-  where
-    by_case : (b : Bool) → (i == k) ≡ b → has_bit (bit_or a (1 * 2 ^ k % 2 ^ 128)) i ≡ (i == k) || has_bit a i
-    by_case true e = let same : i ≡ k = eqb-true i k e in rw (e, same, bit_at_set_same w128 a k h) refl
-    by_case false e = let other : i ≢ k = (λ same. absurd (let t : (i == k) ≡ true = eq-eqb i k same in cc)) in
-        rw (e, bit_at_set_other w128 a k h i other) refl
-
--- what the words of two sets say of the sets
-pub member_low : (set : VarSet) (x : ℕ) → x < 128 → is_member set x ≡ has_bit set.low x
-member_low set x h = let t : nat_lt x 128 ≡ true = search arith in rw t refl
-
-pub member_high : (set : VarSet) (x : ℕ) → 128 ≤ x → is_member set x ≡ has_bit set.high (x - 128)
-member_high set x h = let t : nat_lt x 128 ≡ false = search arith in rw t refl
-
-by_size : {P : Type 0} (x : ℕ) → (x < 128 → P) → (128 ≤ x → P) → P
-by_size {P = P} x small large = choose (nat_lt x 128) refl
-  where
-    choose : (b : Bool) → nat_lt x 128 ≡ b → P
-    choose true e = small (ltb-true x 128 e)
-    choose false e = large (ltb-false x 128 e)
-
 differ : (x v : ℕ) → x ≢ v → (x == v) ≡ false
 differ x v h = choose (x == v) refl
   where
@@ -84,73 +52,56 @@ same_shifted x v p q = choose (x == v) refl
     choose false e = rw e (differ (x - 128) (v - 128) (λ same. absurd (let t : (x == v) ≡ true = eq-eqb x v (omega (arith, same, p, q)) in cc)))
 
 -- a set with one variable more
-pub with_low : (set : VarSet) (v x : ℕ) → v < 128
-    → is_member (record { low = bit_or set.low (1 * 2 ^ v % 2 ^ 128); high = set.high }) x ≡ (x == v) || is_member set x
+pub with_low : (set : Inside) (v x : ℕ) → v < 128
+    → is_kept (record { low = bit_or set.low (1 * 2 ^ v % 2 ^ 128); high = set.high }) x ≡ (x == v) || is_kept set x
 with_low set v x h =
-    let more : VarSet = record { low = bit_or set.low (1 * 2 ^ v % 2 ^ 128); high = set.high } in
-    by_size x
-    (λ small. member_low more x small ∙ bit_more set.low v x h ∙ ap (λ (b : Bool). (x == v) || b) (sym (member_low set x small)))
-    (λ large. member_high more x large ∙ sym (member_high set x large) ∙ ap (λ (b : Bool). b || is_member set x) (sym (differ x v (λ e. absurd (omega (arith, e, h, large))))))
+    let more : Inside = record { low = bit_or set.low (1 * 2 ^ v % 2 ^ 128); high = set.high } in
+    by_size 128 x
+    (λ small. kept_low more x small ∙ bit_more set.low v x h ∙ ap (λ (b : Bool). (x == v) || b) (sym (kept_low set x small)))
+    (λ large. kept_high more x large ∙ sym (kept_high set x large) ∙ ap (λ (b : Bool). b || is_kept set x) (sym (differ x v (λ e. absurd (omega (arith, e, h, large))))))
 
-pub with_high : (set : VarSet) (v x : ℕ) → 128 ≤ v → v < 256
-    → is_member (record { low = set.low; high = bit_or set.high (1 * 2 ^ (v - 128) % 2 ^ 128) }) x ≡ (x == v) || is_member set x
+pub with_high : (set : Inside) (v x : ℕ) → 128 ≤ v → v < 256
+    → is_kept (record { low = set.low; high = bit_or set.high (1 * 2 ^ (v - 128) % 2 ^ 128) }) x ≡ (x == v) || is_kept set x
 with_high set v x low_end h =
-    let more : VarSet = record { low = set.low; high = bit_or set.high (1 * 2 ^ (v - 128) % 2 ^ 128) } in
-    by_size x
-    (λ small. member_low more x small ∙ sym (member_low set x small) ∙ ap (λ (b : Bool). b || is_member set x) (sym (differ x v (λ e. absurd (omega (arith, e, small, low_end))))))
-    (λ large. member_high more x large ∙ bit_more set.high (v - 128) (x - 128) (omega (arith, h, low_end))
+    let more : Inside = record { low = set.low; high = bit_or set.high (1 * 2 ^ (v - 128) % 2 ^ 128) } in
+    by_size 128 x
+    (λ small. kept_low more x small ∙ sym (kept_low set x small) ∙ ap (λ (b : Bool). b || is_kept set x) (sym (differ x v (λ e. absurd (omega (arith, e, small, low_end))))))
+    (λ large. kept_high more x large ∙ bit_more set.high (v - 128) (x - 128) (omega (arith, h, low_end))
     ∙ ap (λ (b : Bool). b || has_bit set.high (x - 128)) (same_shifted x v large low_end)
-    ∙ ap (λ (b : Bool). (x == v) || b) (sym (member_high set x large)))
+    ∙ ap (λ (b : Bool). (x == v) || b) (sym (kept_high set x large)))
 
 -- parts of sets
-pub subset_of_parts : (part whole : VarSet) → bit_and part.low whole.low ≡ part.low → bit_and part.high whole.high ≡ part.high → IsSubset part whole
-subset_of_parts part whole low high x e = by_size x
-    (λ small. member_low whole x small ∙ bits_of_part part.low whole.low low x (sym (member_low part x small) ∙ e))
-    (λ large. member_high whole x large ∙ bits_of_part part.high whole.high high (x - 128) (sym (member_high part x large) ∙ e))
+pub subset_of_parts : (part whole : Inside) → bit_and part.low whole.low ≡ part.low → bit_and part.high whole.high ≡ part.high → IsKeptPart part whole
+subset_of_parts part whole low high x e = by_size 128 x
+    (λ small. kept_low whole x small ∙ bits_of_part part.low whole.low low x (sym (kept_low part x small) ∙ e))
+    (λ large. kept_high whole x large ∙ bits_of_part part.high whole.high high (x - 128) (sym (kept_high part x large) ∙ e))
 
-pub part_low : (part whole : VarSet) → part.low < 2 ^ 128 → IsSubset part whole → bit_and part.low whole.low ≡ part.low
-part_low part whole fits subset = part_of_bits part.low whole.low (λ i e. by_size i
-    (λ small. sym (member_low whole i small) ∙ subset i (member_low part i small ∙ e))
+pub part_low : (part whole : Inside) → part.low < 2 ^ 128 → IsKeptPart part whole → bit_and part.low whole.low ≡ part.low
+part_low part whole fits subset = part_of_bits part.low whole.low (λ i e. by_size 128 i
+    (λ small. sym (kept_low whole i small) ∙ subset i (kept_low part i small ∙ e))
     (λ large. absurd (let none = no_bit_above part.low i fits large in cc)))
 
-pub part_high : (part whole : VarSet) → IsSubset part whole → bit_and part.high whole.high ≡ part.high
+pub part_high : (part whole : Inside) → IsKeptPart part whole → bit_and part.high whole.high ≡ part.high
 part_high part whole subset = part_of_bits part.high whole.high (λ i e.
     let shift : i + 128 - 128 ≡ i = omega arith in
-    let back : is_member part (i + 128) ≡ true = member_high part (i + 128) (omega arith) ∙ ap (λ (k : ℕ). has_bit part.high k) shift ∙ e in
-    ap (λ (k : ℕ). has_bit whole.high k) (sym shift) ∙ sym (member_high whole (i + 128) (omega arith)) ∙ subset (i + 128) back)
+    let back : is_kept part (i + 128) ≡ true = kept_high part (i + 128) (omega arith) ∙ ap (λ (k : ℕ). has_bit part.high k) shift ∙ e in
+    ap (λ (k : ℕ). has_bit whole.high k) (sym shift) ∙ sym (kept_high whole (i + 128) (omega arith)) ∙ subset (i + 128) back)
 
 -- the words of a set without variables
-pub empty_words : (set : VarSet) → set.low ≡ 0 → set.high ≡ 0 → (x : ℕ) → is_member set x ≡ false
-empty_words set low high x = by_size x
-    (λ small. member_low set x small ∙ ap (λ (word : ℕ). has_bit word x) low ∙ no_bit x)
-    (λ large. member_high set x large ∙ ap (λ (word : ℕ). has_bit word (x - 128)) high ∙ no_bit (x - 128))
+pub empty_words : (set : Inside) → set.low ≡ 0 → set.high ≡ 0 → (x : ℕ) → is_kept set x ≡ false
+empty_words set low high x = by_size 128 x
+    (λ small. kept_low set x small ∙ ap (λ (word : ℕ). has_bit word x) low ∙ no_bit x)
+    (λ large. kept_high set x large ∙ ap (λ (word : ℕ). has_bit word (x - 128)) high ∙ no_bit (x - 128))
 
-pub empty_low : (set : VarSet) → set.low < 2 ^ 128 → ((x : ℕ) → is_member set x ≡ false) → set.low ≡ 0
-empty_low set fits none = none_of_bits set.low (λ i. by_size i
-    (λ small. sym (member_low set i small) ∙ none i)
+pub empty_low : (set : Inside) → set.low < 2 ^ 128 → ((x : ℕ) → is_kept set x ≡ false) → set.low ≡ 0
+empty_low set fits none = none_of_bits set.low (λ i. by_size 128 i
+    (λ small. sym (kept_low set i small) ∙ none i)
     (λ large. no_bit_above set.low i fits large))
 
-pub empty_high : (set : VarSet) → ((x : ℕ) → is_member set x ≡ false) → set.high ≡ 0
+pub empty_high : (set : Inside) → ((x : ℕ) → is_kept set x ≡ false) → set.high ≡ 0
 empty_high set none = none_of_bits set.high (λ i.
     let shift : i + 128 - 128 ≡ i = omega arith in
-    ap (λ (k : ℕ). has_bit set.high k) (sym shift) ∙ sym (member_high set (i + 128) (omega arith)) ∙ none (i + 128))
-
--- one bit, as it is computed
-one_bit : (k : ℕ) → k < 128 → 1 * 2 ^ k % 2 ^ 128 ≡ 2 ^ k
-one_bit k h =
-    let below : 2 ^ k < 2 ^ 128 = pow-lt h in
-    ap (λ (n : ℕ). n % 2 ^ 128) (one_times (2 ^ k)) ∙ mod-eq_of_lt below
-  where
-    one_times : (n : ℕ) → 1 * n ≡ n
-    one_times n = omega arith
-
-pub low_member : (set : VarSet) (v : ℕ) → v < 128
-    → record { low = bit_or set.low (1 * 2 ^ v % 2 ^ 128); high = set.high } ≡ with_member v set
-low_member set v h = let t : nat_lt v 128 ≡ true = search arith in rw (t, one_bit v h) refl
-
-pub high_member : (set : VarSet) (v : ℕ) → 128 ≤ v → v < 256
-    → record { low = set.low; high = bit_or set.high (1 * 2 ^ (v - 128) % 2 ^ 128) } ≡ with_member v set
-high_member set v low_end h = let t : nat_lt v 128 ≡ false = search arith in rw (t, one_bit (v - 128) (omega (arith, h, low_end))) refl
+    ap (λ (k : ℕ). has_bit set.high k) (sym shift) ∙ sym (kept_high set (i + 128) (omega arith)) ∙ none (i + 128))
 
 -- the bits of what joins two words
 max_test : (a b : ℕ) → a < 2 → b < 2 → (max a b == 1) ≡ (a == 1) || (b == 1)
@@ -193,53 +144,53 @@ lesser_bit a b i fits other_fits = choose (nat_lt i 128) refl
         let none = no_bit_above a i fits (ltb-false i 128 e) in
         common_bit a (bit_not w128 b) i ∙ ap (λ (t : Bool). t && has_bit (bit_not w128 b) i) none ∙ sym (ap (λ (t : Bool). t && not (has_bit b i)) none)
 
-both : (join : Bool → Bool → Bool) {p p' q q' : Bool} → p ≡ p' → q ≡ q' → join p q ≡ join p' q'
+pub both : (join : Bool → Bool → Bool) {p p' q q' : Bool} → p ≡ p' → q ≡ q' → join p q ≡ join p' q'
 both join {p' = p'} {q = q} e e' = ap (λ (t : Bool). join t q) e ∙ ap (λ (t : Bool). join p' t) e'
 
 -- the members of what joins two sets
-joins : (join : Bool → Bool → Bool) (result a b : VarSet)
+joins : (join : Bool → Bool → Bool) (result a b : Inside)
     → ((i : ℕ) → has_bit result.low i ≡ join (has_bit a.low i) (has_bit b.low i))
     → ((i : ℕ) → has_bit result.high i ≡ join (has_bit a.high i) (has_bit b.high i))
-    → (x : ℕ) → is_member result x ≡ join (is_member a x) (is_member b x)
-joins join result a b low high x = by_size x
-    (λ small. member_low result x small ∙ low x ∙ sym (both join (member_low a x small) (member_low b x small)))
-    (λ large. member_high result x large ∙ high (x - 128) ∙ sym (both join (member_high a x large) (member_high b x large)))
+    → (x : ℕ) → is_kept result x ≡ join (is_kept a x) (is_kept b x)
+joins join result a b low high x = by_size 128 x
+    (λ small. kept_low result x small ∙ low x ∙ sym (both join (kept_low a x small) (kept_low b x small)))
+    (λ large. kept_high result x large ∙ high (x - 128) ∙ sym (both join (kept_high a x large) (kept_high b x large)))
 
-pub in_union : (a b : VarSet) (x : ℕ)
-    → is_member (record { low = bit_or a.low b.low; high = bit_or a.high b.high }) x ≡ is_member a x || is_member b x
+pub in_union : (a b : Inside) (x : ℕ)
+    → is_kept (record { low = bit_or a.low b.low; high = bit_or a.high b.high }) x ≡ is_kept a x || is_kept b x
 in_union a b = joins (λ p q. p || q) (record { low = bit_or a.low b.low; high = bit_or a.high b.high }) a b (either_bit a.low b.low) (either_bit a.high b.high)
 
-pub in_common : (a b : VarSet) (x : ℕ)
-    → is_member (record { low = bit_and a.low b.low; high = bit_and a.high b.high }) x ≡ is_member a x && is_member b x
+pub in_common : (a b : Inside) (x : ℕ)
+    → is_kept (record { low = bit_and a.low b.low; high = bit_and a.high b.high }) x ≡ is_kept a x && is_kept b x
 in_common a b = joins (λ p q. p && q) (record { low = bit_and a.low b.low; high = bit_and a.high b.high }) a b (common_bit a.low b.low) (common_bit a.high b.high)
 
-pub in_first_alone : (a b : VarSet) → a.low < 2 ^ 128 → a.high < 2 ^ 128 → b.low < 2 ^ 128 → b.high < 2 ^ 128 → (x : ℕ)
-    → is_member (record { low = bit_and a.low (bit_not w128 b.low); high = bit_and a.high (bit_not w128 b.high) }) x ≡ is_member a x && not (is_member b x)
+pub in_first_alone : (a b : Inside) → a.low < 2 ^ 128 → a.high < 2 ^ 128 → b.low < 2 ^ 128 → b.high < 2 ^ 128 → (x : ℕ)
+    → is_kept (record { low = bit_and a.low (bit_not w128 b.low); high = bit_and a.high (bit_not w128 b.high) }) x ≡ is_kept a x && not (is_kept b x)
 in_first_alone a b p q r s = joins (λ t u. t && not u) (record { low = bit_and a.low (bit_not w128 b.low); high = bit_and a.high (bit_not w128 b.high) }) a b
     (λ i. lesser_bit a.low b.low i p r) (λ i. lesser_bit a.high b.high i q s)
 
 -- a set's first variable
-pub record IsFirst (set : VarSet) (x : ℕ) : Type 0 where
-  pub member : is_member set x ≡ true
-  pub least : (y : ℕ) → y < x → is_member set y ≡ false
+pub record IsFirst (set : Inside) (x : ℕ) : Type 0 where
+  pub member : is_kept set x ≡ true
+  pub least : (y : ℕ) → y < x → is_kept set y ≡ false
 
-pub first_low : (set : VarSet) → set.low < 2 ^ 128 → (set.low ≡ 0 → ⊥) → IsFirst set (trailing_zeros w128 set.low)
+pub first_low : (set : Inside) → set.low < 2 ^ 128 → (set.low ≡ 0 → ⊥) → IsFirst set (trailing_zeros w128 set.low)
 first_low set fits some =
     let lowest = bit_at-trailing_zeros w128 set.low (omega (arith, some)) fits in
     let inside : trailing_zeros w128 set.low < 128 = lowest.0 in
     record {
-      member = member_low set (trailing_zeros w128 set.low) inside ∙ eq-eqb (bit_at set.low (trailing_zeros w128 set.low)) 1 lowest.1;
-      least = λ y before. member_low set y (omega (arith, before, inside)) ∙ ap (λ (n : ℕ). n == 1) (lowest.2 y before);
+      member = kept_low set (trailing_zeros w128 set.low) inside ∙ eq-eqb (bit_at set.low (trailing_zeros w128 set.low)) 1 lowest.1;
+      least = λ y before. kept_low set y (omega (arith, before, inside)) ∙ ap (λ (n : ℕ). n == 1) (lowest.2 y before);
     }
 
-pub first_high : (set : VarSet) → set.high < 2 ^ 128 → set.low ≡ 0 → (set.high ≡ 0 → ⊥) → IsFirst set (128 + trailing_zeros w128 set.high)
+pub first_high : (set : Inside) → set.high < 2 ^ 128 → set.low ≡ 0 → (set.high ≡ 0 → ⊥) → IsFirst set (128 + trailing_zeros w128 set.high)
 first_high set fits none some =
     let lowest = bit_at-trailing_zeros w128 set.high (omega (arith, some)) fits in
     let shift : 128 + trailing_zeros w128 set.high - 128 ≡ trailing_zeros w128 set.high = omega arith in
     record {
-      member = member_high set (128 + trailing_zeros w128 set.high) (omega arith) ∙ ap (λ (n : ℕ). has_bit set.high n) shift
+      member = kept_high set (128 + trailing_zeros w128 set.high) (omega arith) ∙ ap (λ (n : ℕ). has_bit set.high n) shift
           ∙ eq-eqb (bit_at set.high (trailing_zeros w128 set.high)) 1 lowest.1;
-      least = λ y before. by_size y
-          (λ small. member_low set y small ∙ ap (λ (word : ℕ). has_bit word y) none ∙ no_bit y)
-          (λ large. member_high set y large ∙ ap (λ (n : ℕ). n == 1) (lowest.2 (y - 128) (omega (arith, before, large))));
+      least = λ y before. by_size 128 y
+          (λ small. kept_low set y small ∙ ap (λ (word : ℕ). has_bit word y) none ∙ no_bit y)
+          (λ large. kept_high set y large ∙ ap (λ (n : ℕ). n == 1) (lowest.2 (y - 128) (omega (arith, before, large))));
     }

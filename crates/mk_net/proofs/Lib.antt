@@ -8,6 +8,7 @@ pub mod Blanks
 pub mod Events
 pub mod KeptRows
 pub mod Mapped
+pub mod Members
 pub mod Numbers
 pub mod Choices
 pub mod Firsts

@@ -2,13 +2,47 @@
 
 ghost use Rattle.std.specs.Prelude.{◌≡◌, ℕ, ◌<◌, ◌≤◌, ◌&&◌, ◌||◌, ◌==◌, ◌↔◌, not, true, false, IsTrue, IfSome, IfNone};
 ghost use Rattle.mk_net.specs.Bounds.{max_variables};
+ghost use Rattle.std.specs.Cmp.{partial_equiv_from_equiv};
+ghost use Rattle.mk_net.specs.Texts.{same_text};
+ghost use Rattle.mk_net.specs.inner.TextLaws.{same_text_equiv};
 ghost use Rattle.mk_net.specs.Sets.{is_member, IsSubset, no_variables, with_member};
 
+use std::marker::Model;
+
 /// A set of variables below 256, one bit for each: those below 128 in `low`.
-#[derive(Clone, Copy, Debug, Default, PartialEq, Eq)]
+#[derive(Clone, Copy, Debug)]
 pub struct VarSet {
-    pub low: u128,
-    pub high: u128,
+    low: u128,
+    high: u128,
+}
+
+impl Model for VarSet {
+    ghost use Rattle.std.specs.Prelude.{ℕ, List};
+    ghost use Rattle.mk_net.specs.inner.KeptSets.{IsKeptSet, kept_set, words_of, words_back};
+
+    ghost Value = { List ℕ };
+
+    ghost view = { kept_set };
+
+    ghost invariant = { IsKeptSet };
+
+    ghost inverse = { words_of };
+
+    ghost inverse_ok = { words_back };
+}
+
+impl PartialEq for VarSet {
+    ghost eq = { same_text };
+
+    ghost laws = { partial_equiv_from_equiv same_text_equiv };
+
+    fn eq(&self, other: &VarSet) -> bool {
+        self.low == other.low && self.high == other.high
+    }
+}
+
+impl Eq for VarSet {
+    ghost laws = { same_text_equiv };
 }
 
 impl VarSet {
