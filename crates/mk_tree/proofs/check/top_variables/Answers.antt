@@ -1,4 +1,5 @@
-use Rattle.std.proofs.Common.{arith, ◌∙◌}
+use Rattle.std.proofs.Common.{◌&&◌, not, arith, ap₂, ◌∙◌}
+use Rattle.mk_net.specs.Sets.{VarSet, is_member}
 use Rattle.mk_tree.proofs.Tested.{linked_earlier, top_after_first}
 use Rattle.mk_tree.proofs.check.top_variables.Goals as goal
 
@@ -13,4 +14,6 @@ bounds-cliques-link c =
 
 pub returns : goal.returns
 returns c x =
-    c.without.ensures x ∙ top_after_first (record { cliques = c.args.cliques.now; links = c.args.links.now }) c.args.place x _ _ c.requires.linked (omega arith) (omega arith)
+    c.without.ensures x
+    ∙ ap₂ (λ (own other : VarSet). is_member own x && not (is_member other x)) c.index-cliques-place.is c.index-cliques-link.is
+    ∙ top_after_first (record { cliques = c.args.cliques.now; links = c.args.links.now }) c.args.place x _ _ c.requires.linked (omega arith) (omega arith)

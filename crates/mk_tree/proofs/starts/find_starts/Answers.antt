@@ -1,5 +1,7 @@
-use Rattle.std.proofs.Common.{arith, ◌≡◌, ◌-◌, suc, subst, sym, rules}
-use Rattle.mk_net.specs.Sets.{no_variables}
+use Rattle.std.proofs.Common.{arith, ◌≡◌, ◌-◌, suc, subst, sym, ap, ◌∙◌, get_or, rules}
+use Rattle.std.specs.Prelude.{if◌then◌else◌}
+use Rattle.std.proofs.lemmas.List.{get_or_default}
+use Rattle.mk_net.specs.Sets.{VarSet, is_member, no_variables}
 use Rattle.mk_tree.proofs.Begun.{StartFrom, none_started, more_started, all_started, written_over}
 use Rattle.mk_tree.proofs.starts.find_starts.Goals as goal
 
@@ -23,9 +25,12 @@ loop-place-preserved c =
     c.loop-place.starts.items
     (omega (arith, c.begin_at.ensures.one_each, count, c.loop-place.starts.ok.0))
     (sym c.loop-place.starts.ok.0) in
+    let own : c.index-cliques-place.result ≡ get_or c.args.cliques.now (c.loop-place.place - 1) no_variables =
+    c.index-cliques-place.is ∙ get_or_default c.args.cliques.now (c.loop-place.place - 1) c.index-cliques-place.result no_variables (omega arith) in
     rw whole (more_started c.args.cliques.now (c.loop-place.place - 1) no_variables
     c.deref_mut.result.now c.begin_at.new.starts (omega arith) later
-    c.begin_at.ensures.one_each c.begin_at.ensures.begun)
+    c.begin_at.ensures.one_each (λ x small. c.begin_at.ensures.begun x small
+    ∙ ap (λ (set : VarSet). if is_member set x then c.loop-place.place - 1 else get_or c.deref_mut.result.now x 0) own))
 
 pub returns : goal.returns
 returns c =
