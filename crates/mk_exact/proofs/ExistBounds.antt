@@ -97,11 +97,13 @@ module _ (H : List Entry) (bounds : IsWithinBounds H) (u : ℕ) where
       divides H = one-le-mul (one-le-pow (withdrawn H u) 2 (omega arith)) (one-le-pow (trade_count H u) unit (omega arith))
 
   cash_below : (small idle : Type 0) (most_trades g b low high : ℕ) → g ≤ 2 ^ (63 * trade_count H u)
-      → b ≤ million → CoversCash small idle (sharpness most_trades) (factor_with H u g) b low high → high < number_limit
+      → b ≤ million → CoversCash small idle (sharpness most_trades) (factor_with H u g) b low high
+      → high < number_limit
   cash_below small idle most_trades g b low high h few covers =
       let cash : covers.cash ≤ (deposited H u + 63 * trade_count H u) * b
       = cash_is_bounded (factor_with H u g) b (deposited H u + 63 * trade_count H u) covers.cash divides (factor_at_most g h) covers.is_cash in
-      let most : (deposited H u + 63 * trade_count H u) * b ≤ (1000 * 1000000 + 63 * 1000000) * 1000000 = mul-le-mul sum few in
+      let most : (deposited H u + 63 * trade_count H u) * b
+      ≤ (1000 * 1000000 + 63 * 1000000) * 1000000 = mul-le-mul sum few in
       omega (
         arith,
         cash_is_narrow small idle most_trades (factor_with H u g) b low high few covers,
@@ -114,26 +116,30 @@ module _ (H : List Entry) (bounds : IsWithinBounds H) (u : ℕ) where
       sum : deposited H u + 63 * trade_count H u ≤ 1000 * 1000000 + 63 * 1000000
       sum = omega (arith, deposited_at_most, own_trades.1, bounds.few_trades, bounds.few_transfers)
 
-pub cash_fits : (small idle : Type 0) (H : List Entry) (most_trades u : ℕ) (s : List ℕ) (b low high : ℕ)
-    → IsWithinBounds H → b ≤ million
+pub cash_fits : (small idle : Type 0) (H : List Entry) (most_trades u : ℕ) (s : List ℕ)
+    (b low high : ℕ) → IsWithinBounds H → b ≤ million
     → CoversCash small idle (sharpness most_trades) (factor H u s) b low high → high < number_limit
-cash_fits small idle H most_trades u s b low high bounds few covers = cash_below H bounds u small idle
-    most_trades (gain H u s) b low high (gain_at_most H bounds u s) few covers
+cash_fits small idle H most_trades u s b low high bounds few covers =
+    cash_below H bounds u small idle most_trades (gain H u s) b low high (gain_at_most H bounds u s) few covers
 
 -- a least gain is below 2^63 for each trade of its user
 pub least_gain_at_most : (network : List Variable) (H : List Entry) → IsWithinBounds H → (u : ℕ)
     (test : List ℕ → Bool) (least : ℕ) → least_gain network H u test ≡ Some least
     → least ≤ 2 ^ (63 * trade_count H u)
 least_gain_at_most network H bounds u test least is_least =
-    rw is_least at (of_least (gain H u) (λ g. g ≤ 2 ^ (63 * trade_count H u)) (possible_states network H test)
-    (each_always (λ s. gain H u s ≤ 2 ^ (63 * trade_count H u)) (gain_at_most H bounds u) (possible_states network H test)))
+    rw is_least at (of_least (gain H u) (λ g. g ≤ 2 ^ (63 * trade_count H u))
+    (possible_states network H test)
+    (each_always (λ s. gain H u s ≤ 2 ^ (63 * trade_count H u)) (gain_at_most H bounds u)
+    (possible_states network H test)))
 
-pub least_cash_fits : (small idle : Type 0) (network : List Variable) (H : List Entry) (most_trades u : ℕ)
-    (test : List ℕ → Bool) (least b low high : ℕ) → IsWithinBounds H → b ≤ million
+pub least_cash_fits : (small idle : Type 0) (network : List Variable) (H : List Entry)
+    (most_trades u : ℕ) (test : List ℕ → Bool) (least b low high : ℕ)
+    → IsWithinBounds H → b ≤ million
     → least_gain network H u test ≡ Some least
-    → CoversCash small idle (sharpness most_trades) (factor_with H u least) b low high → high < number_limit
-least_cash_fits small idle network H most_trades u test least b low high bounds few is_least covers = cash_below
-    H bounds u small idle most_trades least b low high
+    → CoversCash small idle (sharpness most_trades) (factor_with H u least) b low high
+    → high < number_limit
+least_cash_fits small idle network H most_trades u test least b low high bounds few is_least covers =
+    cash_below H bounds u small idle most_trades least b low high
     (least_gain_at_most network H bounds u test least is_least) few covers
 
 -- ---- the bounds of a history with one change more

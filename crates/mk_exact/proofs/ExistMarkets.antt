@@ -142,10 +142,18 @@ module _ (network : List Variable) (H : List Entry) (net : IsNetwork network) (p
     price_is = record { divides = total_positive network H net proper (holds asked.condition) open_for.some_state; at_most_one = omega (arith, total_condition network H asked) }
 
     pub price_exists_for : (near : ℕ) → 2 ≤ near → HasPrice network H near asked
-    price_exists_for near wide = at (price_is_covered near (exact_price network H asked) wide price_is.divides price_is.at_most_one)
+    price_exists_for near wide = at
+        (price_is_covered near (exact_price network H asked) wide
+        price_is.divides price_is.at_most_one)
       where
-        at : (low : ℕ) × (high : ℕ) × CoversPrice ⊤ near (exact_price network H asked) low high → HasPrice network H near asked
-        at c = record { exact = price_is; low = c.0; high = c.1; covers = covers_in (IsSmall network H) near (exact_price network H asked) (c.0) (c.1) (c.2) }
+        at : (low : ℕ) × (high : ℕ) × CoversPrice ⊤ near (exact_price network H asked) low high
+            → HasPrice network H near asked
+        at c = record {
+          exact = price_is;
+          low = c.0;
+          high = c.1;
+          covers = covers_in (IsSmall network H) near (exact_price network H asked) (c.0) (c.1) (c.2);
+        }
 
   module _ (asked : Asked) (moves : CanMove network H asked) where
     hit_price : IsPositivePrice (price_where network H asked.condition (with_target asked))

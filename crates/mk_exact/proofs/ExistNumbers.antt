@@ -1,6 +1,7 @@
 -- Intervals of prices, cash and whole bits exist.
 use Rattle.std.proofs.Common.{◌≡◌, ℕ, zero, suc, ◌+◌, ◌-◌, ◌*◌, ◌/◌, ◌^◌, ◌<◌, ◌≤◌, ◌⊎◌, refl, sym}
-use Rattle.std.proofs.Common.{ap, ◌∙◌, subst, inl, inr, arith, add-one, le_refl, le_trans, lt_of_lt_of_le}
+use Rattle.std.proofs.Common.{ap, ◌∙◌, subst, inl, inr, arith, add-one, le_refl, le_trans}
+use Rattle.std.proofs.Common.{lt_of_lt_of_le}
 use Rattle.std.specs.Bool.{⊤}
 use Rattle.std.proofs.Math.Nat.{div-mul-le_self, lt-div-mul-add, mul-le-mul, mul-le-mul_left}
 use Rattle.std.proofs.Math.Nat.{mul-le-mul_right, mul-lt-mul_of_pos_right, le-mul_of_pos_right}
@@ -48,9 +49,13 @@ further t p n x l q h =
     let c : t * n < x * n = mul-lt-mul_of_pos_right h q in
     omega arith
 
-pub price_is_covered : (near : ℕ) (price : Fraction) → 2 ≤ near → 1 ≤ price.den → price.num ≤ price.den
-    → (low : ℕ) × (high : ℕ) × CoversPrice ⊤ near price low high
-price_is_covered near price wide p q = (10 ^ 10 * price.num / price.den, (10 ^ 10 * price.num + price.den - 1) / price.den, covers (rounded (10 ^ 10 * price.num) price.den (10 ^ 10) p (mul-le-mul_left (10 ^ 10) q)))
+pub price_is_covered : (near : ℕ) (price : Fraction) → 2 ≤ near → 1 ≤ price.den
+    → price.num ≤ price.den → (low : ℕ) × (high : ℕ) × CoversPrice ⊤ near price low high
+price_is_covered near price wide p q = (
+  10 ^ 10 * price.num / price.den,
+  (10 ^ 10 * price.num + price.den - 1) / price.den,
+  covers (rounded (10 ^ 10 * price.num) price.den (10 ^ 10) p (mul-le-mul_left (10 ^ 10) q)),
+)
   where
     none_of : (high : ℕ) → price.num ≡ 0 → high * price.den < 10 ^ 10 * price.num + price.den → high ≡ 0
     none_of high e less = let l : high < 1 = fewer high 1 price.den (omega arith) in omega arith
@@ -70,12 +75,14 @@ price_is_covered near price wide p q = (10 ^ 10 * price.num / price.den, (10 ^ 1
         (10 ^ 10 * price.num) (omega arith) in
         omega arith
 
-    covers : {low high : ℕ} → AreRounded (10 ^ 10 * price.num) price.den (10 ^ 10) low high → CoversPrice ⊤ near price low high
+    covers : {low high : ℕ} → AreRounded (10 ^ 10 * price.num) price.den (10 ^ 10) low high
+        → CoversPrice ⊤ near price low high
     covers {low} {high} h = record {
       below = h.below;
       above = h.above;
       at_most_one = h.at_most;
-      low_near = further (10 ^ 10 * price.num) (near - 1) near ((low + 1) * price.den) (omega arith) (omega arith) h.floor;
+      low_near = further (10 ^ 10 * price.num) (near - 1) near ((low + 1) * price.den) (omega arith)
+          (omega arith) h.floor;
       high_near = ceiling_near high h.ceiling;
       never = λ e. none_of high e h.ceiling;
       sure = λ e. all_of low e h.floor h.below;
@@ -147,10 +154,14 @@ narrow_price small near price low high wide h = elim (cases_lt price.den 1) [
     same = omega arith
 
     low_near : 10 ^ 10 * price.num * (near - 1) < (low + 1) * price.den * (near - 1 + 1)
-    low_near = subst (λ n. 10 ^ 10 * price.num * (near - 1) < (low + 1) * price.den * n) same h.low_near
+    low_near = subst (λ n. 10 ^ 10 * price.num * (near - 1) < (low + 1) * price.den * n) same
+        h.low_near
 
-    high_near : high * price.den * (near - 1) < 10 ^ 10 * price.num * (near - 1 + 1) + price.den * (near - 1)
-    high_near = subst (λ n. high * price.den * (near - 1) < 10 ^ 10 * price.num * n + price.den * (near - 1)) same h.high_near
+    high_near : high * price.den * (near - 1) < 10 ^ 10 * price.num * (near - 1 + 1)
+        + price.den * (near - 1)
+    high_near = subst
+        (λ n. high * price.den * (near - 1) < 10 ^ 10 * price.num * n + price.den * (near - 1))
+        same h.high_near
 
     few : 10 ^ 10 * price.num ≤ 10 ^ 10 * price.den
     few = le_trans h.above (mul-le-mul_right price.den h.at_most_one)
@@ -207,7 +218,8 @@ pub cash_is_covered : (near : ℕ) (q : Fraction) (b : ℕ) → 2 ≤ near → I
     → (low : ℕ) × (high : ℕ) × CoversCash ⊤ ⊤ near q b low high
 cash_is_covered near q b wide safe = covers (cash_exists q b safe)
   where
-    covers : (cash : ℕ) × IsCash q b cash → (low : ℕ) × (high : ℕ) × CoversCash ⊤ ⊤ near q b low high
+    covers : (cash : ℕ) × IsCash q b cash
+        → (low : ℕ) × (high : ℕ) × CoversCash ⊤ ⊤ near q b low high
     covers c = (
       c.0,
       c.0,
@@ -329,7 +341,8 @@ cash_is_bounded q b m cash p h c =
     at_most : q.num ^ b ≤ 2 ^ (m * b) * q.den ^ b
     at_most = rw (← power_of_power m b, ← mul-pow (2 ^ m) q.den b) (pow-le-pow_left h b)
 
-pub most_exists : (near : ℕ) (q : Fraction) → 2 ≤ near → IsSafeFactor q → (k : ℕ) × IsMost ⊤ ⊤ near q k
+pub most_exists : (near : ℕ) (q : Fraction) → 2 ≤ near → IsSafeFactor q
+    → (k : ℕ) × IsMost ⊤ ⊤ near q k
 most_exists near q wide safe = is_most (greatest_power q.num q.den safe.divides safe.at_least_one)
   where
     is_most : (k : ℕ) × (2 ^ k * q.den ≤ q.num) × (q.num < 2 ^ (k + 1) * q.den)

@@ -18,8 +18,8 @@ use Rattle.mk_exact.specs.Proper.{IsTradeOf}
 abbrev pub Covers : Fraction → ℕ → Type 0
 Covers q bits = 2 ^ bits * q.den ≤ q.num
 
--- k bits are within the factor, and k + 1 are more than it but for a part in twice near; in the small
--- case, and of a user who holds no trade, more than it
+-- k bits are within the factor, and k + 1 are more than it but for a part in twice near; in the
+-- small case, and of a user who holds no trade, more than it
 pub record IsMost (small idle : Type 0) (near : ℕ) (q : Fraction) (k : ℕ) : Type 0 where
   pub within : Covers q k
   pub nearly : q.num * (2 * near - 1) < 2 ^ (k + 1) * (2 * near) * q.den

@@ -20,9 +20,10 @@ pub record IsCashBetween (q : Fraction) (b low high : ℕ) : Type 0 where
   pub above : low ≤ cash
   pub below : cash ≤ high
 
--- low .. high covers the cash, and is near it by one part in so many of the factor; in the small case
--- by one part in 2^59. Of a user who holds no trade both are the cash
-pub record CoversCash (small idle : Type 0) (parts : ℕ) (q : Fraction) (b low high : ℕ) : Type 0 where
+-- low .. high covers the cash, and is near it by one part in so many of the factor; in the small
+-- case by one part in 2^59. Of a user who holds no trade both are the cash
+pub record CoversCash (small idle : Type 0) (parts : ℕ) (q : Fraction) (b low high : ℕ)
+    : Type 0 where
   pub cash : ℕ
   pub is_cash : IsCash q b cash
   pub above : low ≤ cash

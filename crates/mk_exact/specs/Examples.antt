@@ -180,7 +180,8 @@ pub record HasTwoTraders : Type 0 where
   pub alice_after_a_up : least_gain chain (both_traded ++ Resolve (is 0 0) ∷ []) 0 always ≡ Some 1099511627776
 
 -- this is no small case, and yet a price is not two units wide, nor alice paid a point too little
--- or told of a bit too few, in a market of any number of trades; and who holds no trade is paid exactly
+-- or told of a bit too few, in a market of any number of trades; and who holds no trade is paid
+-- exactly
 abbrev pub alice_after_both : Fraction
 alice_after_both = factor_with both_traded 0 863901993252
 

@@ -4,7 +4,8 @@
 use Rattle.std.specs.Prelude.{◌≡◌, ℕ, ◌+◌, ◌*◌, ◌^◌, ◌<◌, ◌≤◌, true, false, ⊤, ◌⊎◌, List, [], ◌∷◌}
 use Rattle.std.specs.Prelude.{◌++◌, length, Bool, Option, Some}
 use Rattle.std.specs.List.{AllByRecursion, count_by}
-use Rattle.mk_net.specs.Bounds.{max_market_trades, max_transfers, max_transfer_bits, number_limit, million, sharpness}
+use Rattle.mk_net.specs.Bounds.{max_market_trades, max_transfers, max_transfer_bits, number_limit}
+use Rattle.mk_net.specs.Bounds.{million, sharpness}
 use Rattle.mk_net.specs.Network.{Variable, IsNetwork}
 use Rattle.mk_net.specs.Asked.{Asked}
 use Rattle.mk_net.specs.Events.{speaks_of, AreApart}
@@ -82,13 +83,15 @@ CashCoversMore = (network : List Variable) (H : List Entry) (u near nearer : ℕ
 abbrev pub CashIsBounded : Type 0
 CashIsBounded = (q : Fraction) (b m cash : ℕ) → 1 ≤ q.den → q.num ≤ 2 ^ m * q.den → IsCash q b cash → cash ≤ m * b
 
--- some bits, none or more, are the most that a factor of at least one covers, however near they are to be
+-- some bits, none or more, are the most that a factor of at least one covers, however near they are
+-- to be
 abbrev pub MostExists : Type 0
 MostExists = (near : ℕ) (q : Fraction) → 2 ≤ near → IsSafeFactor q → (k : ℕ) × IsMost ⊤ ⊤ near q k
 
 -- what are the most bits are so less sharply too
 abbrev pub MostCoversMore : Type 0
-MostCoversMore = (network : List Variable) (H : List Entry) (u near nearer : ℕ) (q : Fraction) (k : ℕ)
+MostCoversMore = (network : List Variable) (H : List Entry) (u near nearer : ℕ)
+    (q : Fraction) (k : ℕ)
     → 2 ≤ near → near ≤ nearer → IsMost (IsSmall network H) (HoldsNoTrade H u) nearer q k
     → IsMost (IsSmall network H) (HoldsNoTrade H u) near q k
 
@@ -149,7 +152,8 @@ abbrev pub StateExists : Type 0
 StateExists = (network : List Variable) (H : List Entry) → IsNetwork network → IsProper network H → 1 ≤ length (possible_states network H always)
 
 -- an exact price of at most one, and an interval that covers it
-pub record HasPrice (network : List Variable) (H : List Entry) (near : ℕ) (asked : Asked) : Type 0 where
+pub record HasPrice (network : List Variable) (H : List Entry) (near : ℕ) (asked : Asked)
+    : Type 0 where
   pub exact : IsPortion (exact_price network H asked)
   pub low : ℕ
   pub high : ℕ
@@ -226,7 +230,8 @@ OutcomeExists = (network : List Variable) (H : List Entry)
     → IsNetwork network → IsProper network H
     → ((v : ℕ) → v < length network → speaks_of (resolutions H) v ≡ true) → HasOutcome network H
 
--- a history of at most a million trades, their units below 2^63, and at most a million transfers, with at most 1,000 bits in each deposit
+-- a history of at most a million trades, their units below 2^63, and at most a million transfers,
+-- with at most 1,000 bits in each deposit
 pub record IsWithinBounds (H : List Entry) : Type 0 where
   pub few_trades : length (trades H) ≤ max_market_trades
   pub units_fit : AllByRecursion (λ (t : UserTrade). AllByRecursion (λ n. n < number_limit) t.ratio.factors) (trades H)
@@ -253,12 +258,15 @@ FairPairFits = (network : List Variable) (H : List Entry) (u : ℕ) (asked : Ask
 abbrev pub CashFits : Type 0
 CashFits = (network : List Variable) (H : List Entry) (most_trades u : ℕ) (s : List ℕ)
     (b low high : ℕ) → IsWithinBounds H → b ≤ million
-    → CoversCash (IsSmall network H) (HoldsNoTrade H u) (sharpness most_trades) (factor H u s) b low high
+    → CoversCash (IsSmall network H) (HoldsNoTrade H u) (sharpness most_trades) (factor H u s)
+    b low high
     → high < number_limit
 
 -- as does the cash of a least gain
 abbrev pub LeastCashFits : Type 0
-LeastCashFits = (network : List Variable) (H : List Entry) (most_trades u : ℕ) (test : List ℕ → Bool) (least b low high : ℕ) → IsWithinBounds H → b ≤ million
+LeastCashFits = (network : List Variable) (H : List Entry) (most_trades u : ℕ)
+    (test : List ℕ → Bool) (least b low high : ℕ) → IsWithinBounds H → b ≤ million
     → least_gain network H u test ≡ Some least
-    → CoversCash (IsSmall network H) (HoldsNoTrade H u) (sharpness most_trades) (factor_with H u least) b low high
+    → CoversCash (IsSmall network H) (HoldsNoTrade H u) (sharpness most_trades)
+    (factor_with H u least) b low high
     → high < number_limit

@@ -4,4 +4,5 @@ use Rattle.mk_exact.proofs.existing.cash_fits.Goals as goal
 use Rattle.mk_exact.proofs.ExistBounds.{cash_fits}
 
 pub returns : goal.returns
-returns c = λ network H most_trades u. cash_fits (IsSmall network H) (HoldsNoTrade H u) H most_trades u
+returns c = λ network H most_trades u. cash_fits (IsSmall network H) (HoldsNoTrade H u) H
+    most_trades u
