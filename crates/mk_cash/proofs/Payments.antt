@@ -175,7 +175,8 @@ module _ (network : List Variable) (H : List Entry) (b : ℕ) (s : List ℕ) (u 
       (gain_by rounded_down H u s) (gain_by rounded_up H u s) (2 * trade_count H u) low_log high_log
       factor_raised logs gains.positive _ _ (owed_same low_log) (owed_same high_log)
 
-  payment_covers : IsWithinBounds H → (most_trades : ℕ) → length (trades H) ≤ most_trades → b ≤ million
+  payment_covers : IsWithinBounds H → (most_trades : ℕ) → length (trades H) ≤ most_trades
+      → b ≤ million
       → CoversCash (IsSmall network H) (HoldsNoTrade H u) (sharpness most_trades) (factor H u s) b
       (payment_by_rule H b s u).0 (payment_by_rule H b s u).1
   payment_covers bounds most_trades fit few =
@@ -187,7 +188,8 @@ module _ (network : List Variable) (H : List Entry) (b : ℕ) (s : List ℕ) (u 
       (b * (40 * trade_count H u + withdrawn H u))
       (gain_by rounded_down H u s) (gain_by rounded_up H u s) (2 * trade_count H u) low_log high_log
       factor_raised logs gains.positive few steps (sharpness most_trades)
-      (wide_trades most_trades (trade_count H u) (le_trans own fit) (le_trans own most)) (IsSmall network H) (HoldsNoTrade H u) _ _
+      (wide_trades most_trades (trade_count H u) (le_trans own fit) (le_trans own most))
+      (IsSmall network H) (HoldsNoTrade H u) _ _
       ends_same (times_none rounded_down (trades_of H u) s)
       (owed_same low_log) (owed_same high_log)
 
