@@ -126,7 +126,8 @@ module _ (network : List Variable) (H : List Entry) (most_trades : ℕ) (spread 
       (range_of (CoversValue network H most_trades spread) Anything values 0
       (λ k p q. value k (omega arith)))
     where
-      value : (k : ℕ) → k < values → (ends : ℕ × ℕ) × CoversValue network H most_trades spread k ends × ⊤
+      value : (k : ℕ) → k < values
+          → (ends : ℕ × ℕ) × CoversValue network H most_trades spread k ends × ⊤
       value k below =
           let asked = can_ask told k below in
           let price = price_exists network H (sharpness most_trades) (asked_of spread k)
@@ -134,7 +135,8 @@ module _ (network : List Variable) (H : List Entry) (most_trades : ℕ) (spread 
           ((price.low, price.high), price.covers, tt)
 
       listed :
-          (xs : List (ℕ × ℕ)) × ArePricesOf network H most_trades spread xs × AllByRecursion Anything xs
+          (xs : List (ℕ × ℕ)) × ArePricesOf network H most_trades spread xs
+          × AllByRecursion Anything xs
           → (intervals : List (ℕ × ℕ)) × ArePricesOf network H most_trades spread intervals
       listed l = (l.0, l.1)
 
@@ -159,7 +161,8 @@ module _ (network : List Variable) (H : List Entry) (most_trades : ℕ) (spread 
           (low_at_most_one exact (ends.0) price.exact covers.below, covers.at_most_one)
 
   pub prices_make_one : (intervals : List (ℕ × ℕ)) → IsNetwork network → IsProper network H →
-      CanBeTold network H spread → ArePricesOf network H most_trades spread intervals → MakeOne intervals
+      CanBeTold network H spread → ArePricesOf network H most_trades spread intervals
+      → MakeOne intervals
   prices_make_one intervals net proper told prices = record {
     low = cancelled (sum_by (λ (ends : ℕ × ℕ). ends.0) intervals) (10 ^ 10) whole some lows;
     high = cancelled (10 ^ 10) (sum_by (λ (ends : ℕ × ℕ). ends.1) intervals) whole some highs;
@@ -188,7 +191,8 @@ module _ (network : List Variable) (H : List Entry) (most_trades : ℕ) (spread 
           let sums = high_sum parts_of (10 ^ 10) whole values 0 intervals each in
           rw (← parts) at sums
 
-module _ (network : List Variable) (H : List Entry) (most_trades u b : ℕ) (spread : SpreadAsked) where
+module _ (network : List Variable) (H : List Entry) (most_trades u b : ℕ)
+    (spread : SpreadAsked) where
   abbrev size : ℕ
   size = slice_index (sizes network) spread.variable
 
@@ -245,11 +249,13 @@ module _ (network : List Variable) (H : List Entry) (most_trades u b : ℕ) (spr
   )
     where
       fits : (k low high : ℕ) (o : Option ℕ) → least_gain network H u (comes k) ≡ o →
-          CoversLeast network H most_trades u b (comes k) (low, high) → AreNumbers (Some (low, high))
+          CoversLeast network H most_trades u b (comes k) (low, high)
+          → AreNumbers (Some (low, high))
       fits k low high None e covers = absurd (rw e at covers)
       fits k low high (Some g) e covers =
           let cash = rw e at covers in
-          let most = least_cash_fits (IsSmall network H) (HoldsNoTrade H u) network H most_trades u (comes k) g
+          let most = least_cash_fits (IsSmall network H) (HoldsNoTrade H u) network H most_trades u
+          (comes k) g
           b low high bounds few e cash in
           (omega (arith, most, cash.above, cash.below), most)
 

@@ -54,7 +54,8 @@ IsSureOf network H most_trades u points_per_bit spread value interval =
 abbrev pub IsPositionOf :
     List Variable → List Entry → ℕ → ℕ → ℕ → SpreadAsked → List (Option (ℕ × ℕ)) → Type 0
 IsPositionOf network H most_trades u points_per_bit spread intervals =
-    AllZip (IsSureOf network H most_trades u points_per_bit spread) (values_of network spread) intervals
+    AllZip (IsSureOf network H most_trades u points_per_bit spread) (values_of network spread)
+    intervals
 
 -- each distribution that can be told has prices
 abbrev pub PricesExist : Type 0
@@ -64,7 +65,8 @@ PricesExist = (network : List Variable) (H : List Entry) (most_trades : ℕ) (sp
 
 -- and in a sound market each user has a position in every one
 abbrev pub PositionExists : Type 0
-PositionExists = (network : List Variable) (H : List Entry) (most_trades u b : ℕ) (spread : SpreadAsked)
+PositionExists =
+    (network : List Variable) (H : List Entry) (most_trades u b : ℕ) (spread : SpreadAsked)
     → IsSound network H
     → (intervals : List (Option (ℕ × ℕ))) × IsPositionOf network H most_trades u b spread intervals
 
@@ -87,10 +89,12 @@ AreNumbers interval = IfSome interval (λ ends. (ends.0 < number_limit) × (ends
 -- within the bounds a position is 2 to 16 intervals whose ends fit, at up to a million points per
 -- bit
 abbrev pub PositionFits : Type 0
-PositionFits = (network : List Variable) (H : List Entry) (most_trades u b : ℕ) (spread : SpreadAsked)
+PositionFits =
+    (network : List Variable) (H : List Entry) (most_trades u b : ℕ) (spread : SpreadAsked)
     (intervals : List (Option (ℕ × ℕ)))
     → IsNetwork network → spread.variable < length network → IsWithinBounds H → b ≤ million
-    → IsPositionOf network H most_trades u b spread intervals → AreOfValues intervals × All AreNumbers intervals
+    → IsPositionOf network H most_trades u b spread intervals
+    → AreOfValues intervals × All AreNumbers intervals
 
 -- the prices of all values are one together: so the low ends are at most that, and the high ends at
 -- least
