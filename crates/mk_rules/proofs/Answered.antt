@@ -99,12 +99,17 @@ module _ (market : Market) (now : Standing) (is_market : IsMarket market) (ready
   of_named o P x named (reply, h) = (reply, subst (λ (o : Option _). IsSomeAnd o (λ x. P x reply)) (sym named) h)
 
   withdrawal : (idle : Type 0) (u : List ℕ) (bits : ℕ) (q : Fraction) → IsSafeFactor q
-      → (reply : Reply) × IsWithdrawal (IsSmall network H) idle (sharpness market.max_trades) q u bits (revision H + 1) reply
+      → (reply : Reply)
+      × IsWithdrawal (IsSmall network H) idle (sharpness market.max_trades) q u bits
+      (revision H + 1) reply
   withdrawal idle u bits q safe = at (withdrawal_is_judged (sharpness market.max_trades) q bits
       (sharp_enough market.max_trades) safe)
     where
-      at : (Covers q bits ⊎ ((most : ℕ) × (most < bits) × IsMost ⊤ ⊤ (sharpness market.max_trades) q most))
-          → (reply : Reply) × IsWithdrawal (IsSmall network H) idle (sharpness market.max_trades) q u bits (revision H + 1) reply
+      at : (Covers q bits
+          ⊎ ((most : ℕ) × (most < bits) × IsMost ⊤ ⊤ (sharpness market.max_trades) q most))
+          → (reply : Reply)
+          × IsWithdrawal (IsSmall network H) idle (sharpness market.max_trades) q u bits
+          (revision H + 1) reply
       at (inl covers) = (Withdrawn u bits (revision H + 1), inl (covers, refl))
       at (inr short) = (
         Refused (Short short.0),
@@ -204,14 +209,17 @@ module _ (market : Market) (now : Standing) (is_market : IsMarket market) (ready
 
   -- a payment for each user who is counted from n on
   payments_from : (s : List ℕ) → ((u : ℕ) → IsSafeFactor (factor H u s)) → (n : ℕ) (names : List (List ℕ))
-      → (payments : List Payment) × AllZip (IsPayment network H market.max_trades market.points_per_bit s)
+      → (payments : List Payment)
+      × AllZip (IsPayment network H market.max_trades market.points_per_bit s)
       (enumerate_from n names) payments
   payments_from s safe n [] = ([], tt)
   payments_from s safe n (name ∷ names) =
       let cash = cash_is_covered (sharpness market.max_trades) (factor H n s) market.points_per_bit
       (sharp_enough market.max_trades) (safe n) in
       let later = payments_from s safe (n + 1) names in
-      let covers = cash_in (IsSmall network H) (HoldsNoTrade H n) (sharpness market.max_trades) (factor H n s)
+      let covers =
+      cash_in (IsSmall network H) (HoldsNoTrade H n) (sharpness market.max_trades)
+      (factor H n s)
       market.points_per_bit cash.0 cash.1 cash.2 in (
         record { user = name; low = cash.0; high = cash.1; paid = cash.0 } ∷ later.0,
         (record { name = refl; covers = covers; low_end = refl }, later.1),
@@ -221,11 +229,13 @@ module _ (market : Market) (now : Standing) (is_market : IsMarket market) (ready
   settlement each =
       let outcome = outcome_exists network H is_market.network ready.stands.proper each in
       let paid = payments_from outcome.state (outcome.safe ready.stands.sound) 0 (users H) in
-      let listed : IsSettlement network H market.max_trades market.points_per_bit (Settled (revision H + 1) (paid.0)) =
+      let listed : IsSettlement network H market.max_trades market.points_per_bit
+      (Settled (revision H + 1) (paid.0)) =
       record { state = outcome.state; one_state = outcome.one_state; payments = paid.0; printed = refl; paid = paid.1 } in
       by_number (Settled (revision H + 1) (paid.0)) listed (cases_lt max_payments (length (users H)))
     where
-      by_number : (reply : Reply) → IsSettlement network H market.max_trades market.points_per_bit reply
+      by_number : (reply : Reply)
+          → IsSettlement network H market.max_trades market.points_per_bit reply
           → (max_payments < length (users H)) ⊎ (length (users H) ≤ max_payments) → (reply : Reply) × IsSettling market H reply
       by_number reply listed (inl many) =
           (settled_by_rule market H, record { listed = λ few. absurd (omega arith); summed = λ more. refl })
@@ -235,14 +245,21 @@ module _ (market : Market) (now : Standing) (is_market : IsMarket market) (ready
   answered (User u) none = (Joined u (revision H + 1), inl refl)
   answered (Deposit u bits) none = (Deposited u bits (revision H + 1), refl)
   answered (Withdraw u bits) none = of_least (user_number H u)
-      (λ q reply. IsWithdrawal (IsSmall network H) (HoldsNoTrade H (user_number H u)) (sharpness market.max_trades) q u bits
+      (λ q reply. IsWithdrawal (IsSmall network H) (HoldsNoTrade H (user_number H u))
+      (sharpness market.max_trades) q u bits
       (revision H + 1) reply)
       (withdrawal (HoldsNoTrade H (user_number H u)) u bits)
   answered (Price q) none =
       let refused = none_applies (refusals market H (Price q)) none in
       let asked = question_exists network q refused.1.0 in
-      let price = price_exists network H (sharpness market.max_trades) asked.0 (sharp_enough market.max_trades) is_market.network ready.stands.proper (can_be_asked network H q asked.0 ready.stands.proper asked.1 refused.1.0 refused.1.1.0 refused.1.1.1.0 refused.1.1.1.1.1.1.0) in
-      of_named (question_named network q) (IsPrice network H market.max_trades) asked.0 asked.1 (Priced price.low price.high, record { low = price.low; high = price.high; printed = refl; covers = price.covers })
+      let price = price_exists network H (sharpness market.max_trades) asked.0
+      (sharp_enough market.max_trades) is_market.network ready.stands.proper
+      (can_be_asked network H q asked.0 ready.stands.proper asked.1 refused.1.0
+      refused.1.1.0 refused.1.1.1.0 refused.1.1.1.1.1.1.0) in
+      of_named (question_named network q) (IsPrice network H market.max_trades) asked.0 asked.1 (
+        Priced price.low price.high,
+        record { low = price.low; high = price.high; printed = refl; covers = price.covers },
+      )
   answered (Limits u q) none =
       let refused = none_applies (refusals market H (Limits u q)) none in
       let asked = question_exists network q refused.1.1.0 in
@@ -272,11 +289,14 @@ module _ (market : Market) (now : Standing) (is_market : IsMarket market) (ready
       (can_be_spread network H v condition.items spread.0 ready.stands.proper spread.1 refused.1.1.1.1.0 refused.1.1.1.1.1.1.0 refused.1.1.1.1.1.1.1.1.1.1.1.1.1.0 refused.1.1.1.1.1.1.1.1.1.1.1.1.1.1.0)
       (current_bounds (last_quote now.quotes (user_number H u)) spread.0 (revision H)) refl)
   answered (Worst u) none = of_least (user_number H u)
-      (λ q reply. IsWorst (IsSmall network H) (HoldsNoTrade H (user_number H u)) (sharpness market.max_trades) q
+      (λ q reply. IsWorst (IsSmall network H) (HoldsNoTrade H (user_number H u))
+      (sharpness market.max_trades) q
       market.points_per_bit reply) (λ q safe.
       let cash = cash_is_covered (sharpness market.max_trades) q market.points_per_bit
       (sharp_enough market.max_trades) safe in
-      let covers = cash_in (IsSmall network H) (HoldsNoTrade H (user_number H u)) (sharpness market.max_trades) q
+      let covers =
+      cash_in (IsSmall network H) (HoldsNoTrade H (user_number H u))
+      (sharpness market.max_trades) q
       market.points_per_bit cash.0 cash.1 cash.2 in (
         Worsted cash.0 cash.1,
         record {
@@ -304,15 +324,19 @@ module _ (market : Market) (now : Standing) (is_market : IsMarket market) (ready
       let spread = spread_exists network v condition.items refused.1.0 in
       let told = can_be_told network H v condition.items spread.0 ready.stands.proper spread.1
       refused.1.1.1.0 refused.1.1.1.1.0 refused.1.1.1.1.1.1.1.0 in
-      let prices = prices_exist network H market.max_trades spread.0 is_market.network ready.stands.proper told in
+      let prices =
+      prices_exist network H market.max_trades spread.0 is_market.network ready.stands.proper
+      told in
       let intervals : ArrayVec (ℕ × ℕ) = record { items = prices.0 } in
-      of_named (spread_named network v condition.items) (ArePrices network H market.max_trades) spread.0 spread.1
+      of_named (spread_named network v condition.items) (ArePrices network H market.max_trades)
+      spread.0 spread.1
       (Told intervals, record { intervals = intervals; printed = refl; covers = prices.1 })
   answered (Position u v condition) none =
       let refused = none_applies (refusals market H (Position u v condition)) none in
       let spread = spread_exists network v condition.items refused.1.1.0 in
       let n = user_number H u in
-      let found = position_exists network H market.max_trades n market.points_per_bit spread.0 ready.stands.sound in
+      let found = position_exists network H market.max_trades n market.points_per_bit spread.0
+      ready.stands.sound in
       let intervals : ArrayVec (Option (ℕ × ℕ)) = record { items = found.0 } in
       of_named (spread_named network v condition.items)
       (IsPosition network H market.max_trades n market.points_per_bit) spread.0 spread.1

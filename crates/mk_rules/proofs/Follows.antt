@@ -65,7 +65,8 @@ module _ (market : Market) (H : List Entry) (legal : IsLimited market) (bounded 
   user_follows u reply named none (inr e) = reply_appends (MayFollow market H) market H (User u) reply _ e tt
 
   withdrawal_follows : (u : List ℕ) (bits g : ℕ) (reply : Reply) → first_refusal market H (Withdraw u bits) ≡ None
-      → IsWithdrawal (IsSmall market.network H) (HoldsNoTrade H (user_number H u)) (sharpness market.max_trades)
+      → IsWithdrawal (IsSmall market.network H) (HoldsNoTrade H (user_number H u))
+      (sharpness market.max_trades)
       (factor_with H (user_number H u) g) u bits (revision H + 1) reply
       → Follows (Withdraw u bits) reply
   withdrawal_follows u bits g reply none (inl taken) =
@@ -92,13 +93,15 @@ module _ (market : Market) (H : List Entry) (legal : IsLimited market) (bounded 
 
   -- payments that fit, to users who are counted from n on
   ends_fit : (s : List ℕ) (n : ℕ) (names : List (List ℕ)) (listed : List Payment)
-      → AllZip (IsPayment market.network H market.max_trades market.points_per_bit s) (enumerate_from n names) listed → AllByRecursion FitPayment (map ends_of listed)
+      → AllZip (IsPayment market.network H market.max_trades market.points_per_bit s)
+      (enumerate_from n names) listed → AllByRecursion FitPayment (map ends_of listed)
   ends_fit s n [] [] h = tt
   ends_fit s n [] (payment ∷ listed) h = absurd h
   ends_fit s n (name ∷ names) [] h = absurd h
   ends_fit s n (name ∷ names) (payment ∷ listed) h =
       let covers = h.0.covers in
-      let high = cash_fits (IsSmall market.network H) (HoldsNoTrade H n) H market.max_trades n s market.points_per_bit payment.low payment.high
+      let high = cash_fits (IsSmall market.network H) (HoldsNoTrade H n) H market.max_trades n s
+      market.points_per_bit payment.low payment.high
       bounded.within legal.few_points covers in
       (record { low = omega (arith, covers.above, covers.below); high = high }, ends_fit s (n + 1) names listed h.1)
 

@@ -179,7 +179,8 @@ user_fits market H u reply before (inl e) = reply_appends (Fits market H) market
 user_fits market H u reply before (inr e) = reply_appends (Fits market H) market H (User u) reply _ e tt
 
 withdrawal_fits : (market : Market) (H : List Entry) (u : List ℕ) (bits g : ℕ) (reply : Reply) → is_settled H ≡ false → least_gain market.network H (user_number H u) always ≡ Some g
-    → IsWithdrawal (IsSmall market.network H) (HoldsNoTrade H (user_number H u)) (sharpness market.max_trades)
+    → IsWithdrawal (IsSmall market.network H) (HoldsNoTrade H (user_number H u))
+    (sharpness market.max_trades)
     (factor_with H (user_number H u) g) u bits (revision H + 1) reply
     → AppendsFit market H (Withdraw u bits) reply
 withdrawal_fits market H u bits g reply before e (inl taken) = reply_appends (Fits market H) market H (Withdraw u bits) reply _ taken.1

@@ -134,8 +134,10 @@ no_settlement reply known e h = subst IsSettledReply e h
 -- no other command is answered by a settlement
 withdrawal_settles_not : (small idle : Type 0) (near : ℕ) (q : Fraction) (u : List ℕ) (bits n : ℕ)
     (reply : Reply) → IsWithdrawal small idle near q u bits n reply → IsSettledReply reply → ⊥
-withdrawal_settles_not small idle near q u bits n reply (inl taken) h = no_settlement reply _ taken.1 h
-withdrawal_settles_not small idle near q u bits n reply (inr short) h = no_settlement reply _ short.printed h
+withdrawal_settles_not small idle near q u bits n reply (inl taken) h =
+    no_settlement reply _ taken.1 h
+withdrawal_settles_not small idle near q u bits n reply (inr short) h =
+    no_settlement reply _ short.printed h
 
 edit_settles_not : (network : List Variable) (H : List Entry) (u : ℕ) (asked : Asked) (X : ℕ) (reply : Reply) (o : Option Interval)
     → MatchOption o (IsJudgedAfresh network H u asked X reply) (λ limits. IsJudged network H u asked X limits reply) → IsSettledReply reply → ⊥
@@ -159,7 +161,8 @@ module _ (market : Market) (H : List Entry) (quotes : Quotes) (reply : Reply) wh
   settles_alone (Withdraw u bits) h s =
       let least = value_of _ (least_gain market.network H (user_number H u) always) h in
       absurd (withdrawal_settles_not (IsSmall market.network H)
-      (HoldsNoTrade H (user_number H u)) (sharpness market.max_trades) (factor_with H (user_number H u) least.0) u bits
+      (HoldsNoTrade H (user_number H u)) (sharpness market.max_trades)
+      (factor_with H (user_number H u) least.0) u bits
       (revision H + 1) reply least.2 s)
   settles_alone (Price q) h s = absurd (no_settlement reply _ (value_of _ (question_named market.network q) h).2.printed s)
   settles_alone (Limits u q) h s = absurd (no_settlement reply _ (value_of _ (question_named market.network q) h).2.printed s)
@@ -192,7 +195,8 @@ module _ (market : Market) (H : List Entry) (quotes : Quotes) (reply : Reply) wh
       at : SettlingIs market H reply → PaysWithin market H reply
       at (inl (few, listed)) = subst (PaysWithin market H) (sym listed.printed)
           (payments_cost market H listed.state (paid_by listed.payments) stands listed.one_state
-          (are_payments market.network H market.max_trades market.points_per_bit listed.state listed.payments listed.paid))
+          (are_payments market.network H market.max_trades market.points_per_bit listed.state
+          listed.payments listed.paid))
       at (inr (many, e)) =
           let left = outcome_exists market.network H stands.legal.network stands.proper
           (all_resolved market.network H (none_applies (refusals market H Settle) none).1.0) in

@@ -27,7 +27,8 @@ use Rattle.mk_rules.specs.Standings.{ArePaidOff, Stands}
 -- either way of a settlement
 abbrev pub SettlingIs : Market → List Entry → Reply → Type 0
 SettlingIs market H reply =
-    ((length (users H) ≤ max_payments) × IsSettlement market.network H market.max_trades market.points_per_bit reply)
+    ((length (users H) ≤ max_payments)
+    × IsSettlement market.network H market.max_trades market.points_per_bit reply)
     ⊎ ((max_payments < length (users H)) × (reply ≡ settled_by_rule market H))
 
 pub settling_is : (market : Market) (H : List Entry) (reply : Reply) → IsSettling market H reply → SettlingIs market H reply
@@ -40,7 +41,8 @@ settling_is market H reply h = at (cases_lt max_payments (length (users H)))
 -- ---- the payment to one user among some
 
 -- in a list of payments to users who are counted from n on
-listed_to : (network : List Variable) (H : List Entry) (m b : ℕ) (s : List ℕ) (n : ℕ) (names : List (List ℕ)) (listed : List Payment)
+listed_to : (network : List Variable) (H : List Entry) (m b : ℕ) (s : List ℕ) (n : ℕ)
+    (names : List (List ℕ)) (listed : List Payment)
     → AllZip (IsPayment network H m b s) (enumerate_from n names) listed
     → (k u : ℕ) → n + k ≡ u → k < length names
     → IsCashBetween (factor H u s) b (or_nothing (slice_get (map ends_of listed) k)).0 (or_nothing (slice_get (map ends_of listed) k)).1
@@ -92,11 +94,13 @@ paid_off_behind market H s paid before one between =
     }
 
 -- the payments that a settlement lists
-pub listed_pays_off : (market : Market) (H : List Entry) (reply : Reply) (listed : IsSettlement market.network H market.max_trades market.points_per_bit reply)
+pub listed_pays_off : (market : Market) (H : List Entry) (reply : Reply)
+    (listed : IsSettlement market.network H market.max_trades market.points_per_bit reply)
     → is_settled H ≡ false → ArePaidOff market (H ++ Settles (map ends_of listed.payments) ∷ [])
 listed_pays_off market H reply listed before =
     paid_off_behind market H listed.state (map ends_of listed.payments) before listed.one_state
-    (λ u inside. listed_to market.network H market.max_trades market.points_per_bit listed.state 0 (users H) listed.payments listed.paid u u (omega arith) inside)
+    (λ u inside. listed_to market.network H market.max_trades market.points_per_bit listed.state 0
+    (users H) listed.payments listed.paid u u (omega arith) inside)
 
 -- the payments by rule, where one state is left
 pub rule_pays_off : (market : Market) (H : List Entry) (s : List ℕ) → Stands market H → is_settled H ≡ false

@@ -410,20 +410,24 @@ module _ (market : Market) (now : Standing) (is_market : IsMarket market) (ready
       (current_bounds_right market H u spread intervals (last_quote now.quotes u) (ready.quotes_right u) e) outside
 
   withdrawal_has : (u : List ℕ) (bits g : ℕ) (reply : Reply) → IsName u → IsShort bits
-      → IsWithdrawal (IsSmall network H) (HoldsNoTrade H (user_number H u)) (sharpness market.max_trades)
+      → IsWithdrawal (IsSmall network H) (HoldsNoTrade H (user_number H u))
+      (sharpness market.max_trades)
       (factor_with H (user_number H u) g) u bits (revision H + 1) reply → IsReply reply
   withdrawal_has u bits g reply named short (inl taken) = reply_has reply _ taken.1 (named, omega (arith, short), next)
   withdrawal_has u bits g reply named short (inr less) = reply_has reply _ less.printed (omega (arith, short, less.less))
 
-  settlement_has : (reply : Reply) → length (users H) ≤ max_payments → IsSettlement network H market.max_trades market.points_per_bit reply → IsReply reply
+  settlement_has : (reply : Reply) → length (users H) ≤ max_payments
+      → IsSettlement network H market.max_trades market.points_per_bit reply → IsReply reply
   settlement_has reply listed settlement =
       let each : AllByRecursion HasText settlement.payments = payments_have network H
       market.max_trades market.points_per_bit settlement.state
-      (λ u low high covers. cash_fits (IsSmall network H) (HoldsNoTrade H u) H market.max_trades u settlement.state
+      (λ u low high covers. cash_fits (IsSmall network H) (HoldsNoTrade H u) H market.max_trades u
+      settlement.state
       market.points_per_bit low high bounded.within is_market.few_points covers) 0 (users H)
       settlement.payments bounded.users_named settlement.paid in
       let many : length settlement.payments ≡ length (users H) = AllZip-long
-      (IsPayment network H market.max_trades market.points_per_bit settlement.state) (enumerate_from 0 (users H))
+      (IsPayment network H market.max_trades market.points_per_bit settlement.state)
+      (enumerate_from 0 (users H))
       settlement.payments settlement.paid ∙ length-enumerate_from 0 (users H) in
       reply_has reply _ settlement.printed (next, record { few = omega (arith, listed); each = All-from_recursion HasText settlement.payments each })
 
@@ -488,14 +492,16 @@ module _ (market : Market) (now : Standing) (is_market : IsMarket market) (ready
       let prices = value_of _ (spread_named network v condition.items) h in
       let told = can_be_told network H v condition.items prices.0 ready.stands.proper prices.1
       refused.1.1.1.0 refused.1.1.1.1.0 refused.1.1.1.1.1.1.1.0 in
-      let fit = prices_fit network H market.max_trades prices.0 prices.2.intervals.items is_market.network
+      let fit = prices_fit network H market.max_trades prices.0 prices.2.intervals.items
+      is_market.network
       ready.stands.proper told prices.2.covers in
       reply_has reply _ prices.2.printed
       (record { two = fit.0.two; few = fit.0.few; each = fit.1 })
   answer_has (Position u v condition) reply text none h =
       let found = value_of _ (spread_named network v condition.items) h in
       let within = (spread_is network v condition.items found.0 found.1).variable in
-      let fit = position_fits network H market.max_trades (user_number H u) market.points_per_bit found.0
+      let fit = position_fits network H market.max_trades (user_number H u) market.points_per_bit
+      found.0
       found.2.intervals.items is_market.network within bounded.within is_market.few_points
       found.2.covers in
       let each : All AreEnds found.2.intervals.items =

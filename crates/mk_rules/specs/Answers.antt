@@ -93,7 +93,8 @@ abbrev pub IsSpreadJudgedAfresh : List Variable → List Entry → ℕ → Sprea
 IsSpreadJudgedAfresh network H u spread Xs reply = IsSpreadTrade network H u spread Xs reply ⊎ IsOutsideRight network H u spread Xs reply
 
 -- a withdrawal that is too much, with the bits that may be taken out
-pub record IsShort (small idle : Type 0) (near : ℕ) (q : Fraction) (bits : ℕ) (reply : Reply) : Type 0 where
+pub record IsShort (small idle : Type 0) (near : ℕ) (q : Fraction) (bits : ℕ) (reply : Reply)
+    : Type 0 where
   pub most : ℕ
   pub less : most < bits
   pub is_most : IsMost small idle near q most
@@ -148,7 +149,8 @@ pub record IsSettlement (network : List Variable) (H : List Entry) (most_trades 
   pub one_state : possible_states network H always ≡ state ∷ []
   pub payments : List Payment
   pub printed : reply ≡ Settled (revision H + 1) payments
-  pub paid : AllZip (IsPayment network H most_trades points_per_bit state) (enumerate_from 0 (users H)) payments
+  pub paid : AllZip (IsPayment network H most_trades points_per_bit state)
+      (enumerate_from 0 (users H)) payments
 
 -- a settlement that lists no payments: they are those by rule, and it tells how many users there are and what all are paid
 abbrev pub settled_by_rule : Market → List Entry → Reply
@@ -157,7 +159,8 @@ settled_by_rule market H =
 
 -- a settlement lists its payments, but for more users than it may list
 pub record IsSettling (market : Market) (H : List Entry) (reply : Reply) : Type 0 where
-  pub listed : length (users H) ≤ max_payments → IsSettlement market.network H market.max_trades market.points_per_bit reply
+  pub listed : length (users H) ≤ max_payments
+      → IsSettlement market.network H market.max_trades market.points_per_bit reply
   pub summed : max_payments < length (users H) → reply ≡ settled_by_rule market H
 
 -- the two ends of a payment that is told
@@ -216,7 +219,8 @@ IsAnswer market H quotes Settle reply = IsSettling market H reply
 IsAnswer market H quotes Bound reply = IsBound market.network H market.points_per_bit reply
 IsAnswer market H quotes (Prices v condition) reply =
     let network = market.network in
-    IsSomeAnd (spread_named network v condition.items) (λ spread. ArePrices network H market.max_trades spread reply)
+    IsSomeAnd (spread_named network v condition.items)
+    (λ spread. ArePrices network H market.max_trades spread reply)
 IsAnswer market H quotes (Position u v condition) reply =
     let network = market.network in
     IsSomeAnd (spread_named network v condition.items)

@@ -20,7 +20,8 @@ miss_units = omega arith
 fair : AreSides coin deposited_one 0 heads even even → IsFairPair coin deposited_one 0 heads 600000 1319413953331 879609302220
 fair sides = record { hit = even; miss = even; sides = sides; hit_units = hit_units; miss_units = miss_units }
 
-covers : CoversPrice (IsSmall coin heads_taken) (2 ^ 42) (exact_price coin heads_taken heads) 6000000000 6000000001
+covers : CoversPrice (IsSmall coin heads_taken) (2 ^ 42) (exact_price coin heads_taken heads)
+    6000000000 6000000001
 covers = omega arith
 
 outside : Inside (Some (250000, 750000)) 750001 → ⊥
@@ -46,7 +47,8 @@ least : Fraction
 least = factor_with heads_taken 0 879609302220
 
 short : IsMost (IsSmall coin heads_taken) (HoldsNoTrade heads_taken 0) (2 ^ 42) least 0
-    → IsShort (IsSmall coin heads_taken) (HoldsNoTrade heads_taken 0) (2 ^ 42) least 1 (Refused (Short 0))
+    → IsShort (IsSmall coin heads_taken) (HoldsNoTrade heads_taken 0) (2 ^ 42) least 1
+    (Refused (Short 0))
 short most = record { most = 0; less = omega arith; is_most = most; printed = refl }
 
 pub returns : goal.returns

@@ -30,7 +30,8 @@ alice_covers h = record {
   exact = λ e. (refl, refl);
 }
 
-bob_covers : CoversCash Small (HoldsNoTrade heads_up 1) (2 ^ 42) (factor heads_up 1 (0 ∷ [])) 100 0 0
+bob_covers : CoversCash Small (HoldsNoTrade heads_up 1) (2 ^ 42) (factor heads_up 1 (0 ∷ []))
+    100 0 0
 bob_covers = record {
   cash = 0;
   is_cash = record { covered = omega arith; greatest = omega arith };
@@ -70,7 +71,8 @@ payments_in _ = []
 
 -- what the payments of an allowed settlement are
 are_paid : (payments : List Payment) → IsSettling coin_market heads_up (settled_with payments)
-    → AllZip (IsPayment coin heads_up 1000 100 (0 ∷ [])) (enumerate_from 0 (users heads_up)) payments
+    → AllZip (IsPayment coin heads_up 1000 100 (0 ∷ [])) (enumerate_from 0 (users heads_up))
+    payments
 unfolding payments_in
 are_paid payments settling =
     let h = settling.listed (omega arith) in

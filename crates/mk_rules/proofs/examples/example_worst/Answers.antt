@@ -61,7 +61,8 @@ covered : (low high : ℕ) → (h : IsWorst Small Idle (2 ^ 42) least 100 (Worst
 unfolding low_in high_in
 covered low high h = subst (λ (n : ℕ). CoversCash Small Idle (2 ^ 42) least 100 low n)
     (sym (ap high_in h.printed))
-    (subst (λ (n : ℕ). CoversCash Small Idle (2 ^ 42) least 100 n h.high) (sym (ap low_in h.printed))
+    (subst (λ (n : ℕ). CoversCash Small Idle (2 ^ 42) least 100 n h.high)
+    (sym (ap low_in h.printed))
     h.covers)
 
 pub returns : goal.returns
