@@ -118,7 +118,8 @@ units_owed trades taken =
 divided : (factor : Factor) → 1 ≤ 2 ^ taken_out factor.net * (2 ^ 40) ^ factor.trades
 divided factor = one-le-mul (pow_pos (taken_out factor.net)) (one-le-pow factor.trades (2 ^ 40) (omega arith))
 
-narrow : (e : Enclosure) → IsGradedWithin e widest_grade → upper_of e * 2 ^ 40 ≤ lower_of e * (2 ^ 40 + 1)
+narrow : (e : Enclosure) → IsGradedWithin e widest_grade
+    → upper_of e * 2 ^ 40 ≤ lower_of e * (2 ^ 40 + 1)
 narrow e graded =
     narrow_ends (lower_of e) (upper_of e) graded.grade graded.small graded.has.near
 
