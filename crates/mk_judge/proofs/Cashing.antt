@@ -2,7 +2,7 @@
 use Rattle.std.proofs.Common.{◌≡◌, ℕ, zero, suc, ◌+◌, ◌-◌, ◌*◌, ◌^◌, ◌<◌, ◌≤◌, ◌⊎◌, refl, sym, ap, ◌∙◌, inl, inr, arith, le_trans, lt_of_le_of_lt, le_refl}
 use Rattle.std.proofs.lemmas.Bool.{cases_lt}
 use Rattle.std.proofs.lemmas.Nat.{pow-add, mul-pow, pow_pos}
-use Rattle.std.proofs.Math.Nat.{mul-le-mul, mul-le-mul_left, mul-le-mul_right, mul-lt-mul_of_pos_right, le_of_mul-le-mul_right, lt_of_mul-lt-mul_right, pow-le-pow_left, one-le-pow, one-le-mul, pow-zero, pow-suc}
+use Rattle.std.proofs.Math.Nat.{mul-le-mul, mul-le-mul_right, le_of_mul-le-mul_right, lt_of_mul-lt-mul_right, pow-le-pow_left, one-le-pow, one-le-mul, pow-zero, pow-suc}
 use Rattle.mk_scaled.specs.Range.{two_to, IsInRange, pow_le, power_in_range, two_to-lt, two_to-small, mul_at_most, least_at_most}
 use Rattle.mk_scaled.specs.Rounding.{IsLeastAbove}
 use Rattle.mk_exact.specs.Factors.{Fraction}
@@ -71,7 +71,9 @@ idle_beside factor q scale owned none gained owed = record {
 
 module _ (q : Fraction) (b low high : ℕ) where
   -- the ends are those of an interval that covers the cash
-  pub ends_cover : (small idle : Type 0) (parts near : ℕ) → 2 ≤ parts → parts ≤ near → (small → 2 ^ 59 ≤ near) → (idle → ⊥) → IsSafeFactor q → AreCashEnds near q b low high → CoversCash small idle parts q b low high
+  pub ends_cover : (small idle : Type 0) (parts near : ℕ) → 2 ≤ parts → parts ≤ near
+      → (small → 2 ^ 59 ≤ near) → (idle → ⊥) → IsSafeFactor q → AreCashEnds near q b low high
+      → CoversCash small idle parts q b low high
   ends_cover small idle parts near some wide small_wide busy safe h = by_cash (cash_exists q b safe)
     where
       both : AreNearCash near q b low high
@@ -91,7 +93,8 @@ module _ (q : Fraction) (b low high : ℕ) where
             exact = λ i. absurd (busy i);
           }
 
-  pub cover_ends : (small idle : Type 0) (parts near : ℕ) → AreNearCash near q b low high → CoversCash small idle parts q b low high → AreCashEnds near q b low high
+  pub cover_ends : (small idle : Type 0) (parts near : ℕ) → AreNearCash near q b low high
+      → CoversCash small idle parts q b low high → AreCashEnds near q b low high
   cover_ends small idle parts near is h =
       let from : 2 ^ low * q.den ^ b ≤ 2 ^ h.cash * q.den ^ b = mul-le-mul_right (q.den ^ b) (pow_le low h.cash h.above) in
       let to : 2 ^ (h.cash + 1) * q.den ^ b ≤ 2 ^ (high + 1) * q.den ^ b = mul-le-mul_right (q.den ^ b) (pow_le (h.cash + 1) (high + 1) (let l = h.below in omega (arith, l))) in
@@ -143,7 +146,8 @@ module _ (q : Fraction) (b i o : ℕ) (safe : IsSafeFactor q) (same : q.num ^ b 
           let e : q.den ^ b * (2 ^ i * 2) ≤ 2 ^ i * q.den ^ b = rw (← d, ← same) c in
           omega (arith, e, some)
 
-  pub idle_covers : (small idle : Type 0) (parts low high : ℕ) → 2 ≤ parts → low + o ≡ i → high + o ≡ i → CoversCash small idle parts q b low high
+  pub idle_covers : (small idle : Type 0) (parts low high : ℕ) → 2 ≤ parts → low + o ≡ i
+      → high + o ≡ i → CoversCash small idle parts q b low high
   idle_covers small idle parts low high some low_is high_is =
       let e : high ≡ low = omega arith in
       let is = idle_cash low low_is in
@@ -157,7 +161,8 @@ module _ (q : Fraction) (b i o : ℕ) (safe : IsSafeFactor q) (same : q.num ^ b 
         exact = λ _. (refl, refl);
       })
 
-  pub covers_idle : (small idle : Type 0) (parts low high : ℕ) → idle → CoversCash small idle parts q b low high → (low + o ≡ i) × (high + o ≡ i)
+  pub covers_idle : (small idle : Type 0) (parts low high : ℕ) → idle
+      → CoversCash small idle parts q b low high → (low + o ≡ i) × (high + o ≡ i)
   covers_idle small idle parts low high none h =
       let less = owed_less in
       let f : i - o + o ≡ i = omega arith in
@@ -245,10 +250,12 @@ part_below parts h = let l : 2 ^ parts ≤ 2 ^ 59 = pow_le parts 59 h in omega (
 -- the most that is below the next bit
 pub whole_most : (small idle : Type 0) (near : ℕ) (q : Fraction) (most : ℕ) → 2 ≤ near
     → 2 ^ most * q.den ≤ q.num → q.num < 2 ^ (most + 1) * q.den → IsMost small idle near q most
-whole_most small idle near q most wide within past = record { within = within; nearly = nearly; exactly = λ _. past }
+whole_most small idle near q most wide within past =
+    record { within = within; nearly = nearly; exactly = λ _. past }
   where
     nearly : q.num * (2 * near - 1) < 2 ^ (most + 1) * (2 * near) * q.den
     nearly =
         let l : q.num * (2 * near - 1) < 2 ^ (most + 1) * q.den * (2 * near)
-        = further q.num (2 * near - 1) (2 * near) (2 ^ (most + 1) * q.den) (omega arith) (omega arith) past in
+        = further q.num (2 * near - 1) (2 * near) (2 ^ (most + 1) * q.den) (omega arith)
+        (omega arith) past in
         omega (arith, l)

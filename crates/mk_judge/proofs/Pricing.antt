@@ -28,11 +28,13 @@ pub record AreRounded (price : Fraction) (low high : ℕ) : Type 0 where
 ceiling_near : (near n d high : ℕ) → 2 ≤ near → high * d < n + d
     → high * d * (near - 1) < n * near + d * (near - 1)
 ceiling_near near n d high wide less =
-    let l : high * d * (near - 1) < (n + d) * (near - 1) = mul-lt-mul_of_pos_right less (omega arith) in
+    let l : high * d * (near - 1) < (n + d) * (near - 1) =
+    mul-lt-mul_of_pos_right less (omega arith) in
     let m : n * (near - 1) ≤ n * near = mul-le-mul_left n (omega arith) in
     omega (arith, l, m)
 
-floor_near : (near n d low : ℕ) → 2 ≤ near → n < (low + 1) * d → n * (near - 1) < (low + 1) * d * near
+floor_near : (near n d low : ℕ) → 2 ≤ near → n < (low + 1) * d
+    → n * (near - 1) < (low + 1) * d * near
 floor_near near n d low wide less =
     further n (near - 1) near ((low + 1) * d) (omega arith) (omega arith) less
 
@@ -56,7 +58,8 @@ module _ (price : Fraction) (low high : ℕ) (some : 1 ≤ price.num) (less : pr
       → high * price.den * (near - 1) ≡ (high - 1) * price.den * (near - 1) + price.den * (near - 1)
   scaled_before near one = let e = one_before one in rw e (omega arith)
 
-  pub close_covers : (near : ℕ) → high ≤ 10 ^ 10 → AreClose near price low high → CoversPrice ⊥ near price low high
+  pub close_covers : (near : ℕ) → high ≤ 10 ^ 10 → AreClose near price low high
+      → CoversPrice ⊥ near price low high
   close_covers near most h =
       let one = scaled_before near (high_some h.above) in
       record {
@@ -76,9 +79,15 @@ module _ (price : Fraction) (low high : ℕ) (some : 1 ≤ price.num) (less : pr
       let above : price.num * 10 ^ 10 ≤ high * (price.den * 1) = omega (arith, h.above) in
       let one = scaled_before near (high_some above) in
       let nearer = h.high_near in
-      record { below = omega (arith, h.below); above = above; low_near = h.low_near; high_near = omega (arith, one, nearer) }
+      record {
+        below = omega (arith, h.below);
+        above = above;
+        low_near = h.low_near;
+        high_near = omega (arith, one, nearer);
+      }
 
-  pub rounded_covers : (near : ℕ) → 2 ≤ near → high ≤ 10 ^ 10 → AreRounded price low high → CoversPrice ⊤ near price low high
+  pub rounded_covers : (near : ℕ) → 2 ≤ near → high ≤ 10 ^ 10 → AreRounded price low high
+      → CoversPrice ⊤ near price low high
   rounded_covers near wide most h =
       let one = one_before (high_some h.above) in
       let floor : 10 ^ 10 * price.num < (low + 1) * price.den = omega (arith, h.floor) in
@@ -103,7 +112,9 @@ module _ (price : Fraction) (low high : ℕ) (some : 1 ≤ price.num) (less : pr
       record { below = omega (arith, h.below); above = above; floor = omega (arith, h.floor tt); ceiling = omega (arith, one, ceiling) }
 
 -- the small case is the same as another where both hold or neither does
-pub covers_for : (small other : Type 0) (near : ℕ) (price : Fraction) (low high : ℕ) → (other → small) → CoversPrice small near price low high → CoversPrice other near price low high
+pub covers_for : (small other : Type 0) (near : ℕ) (price : Fraction) (low high : ℕ)
+    → (other → small) → CoversPrice small near price low high
+    → CoversPrice other near price low high
 covers_for small other near price low high to h = record {
   below = h.below;
   above = h.above;
@@ -117,8 +128,10 @@ covers_for small other near price low high to h = record {
 }
 
 -- an interval in order, at most at one
-pub covers_in_order : (small : Type 0) (near : ℕ) (price : Fraction) (low high : ℕ) → 1 ≤ price.den → CoversPrice small near price low high → low ≤ high
-covers_in_order small near price low high some h = elim (cases_lt high low) [ inl more ↦ absurd (past more) | inr le ↦ le ]
+pub covers_in_order : (small : Type 0) (near : ℕ) (price : Fraction) (low high : ℕ) → 1 ≤ price.den
+    → CoversPrice small near price low high → low ≤ high
+covers_in_order small near price low high some h =
+    elim (cases_lt high low) [ inl more ↦ absurd (past more) | inr le ↦ le ]
   where
     past : high < low → ⊥
     past more =
@@ -127,19 +140,23 @@ covers_in_order small near price low high some h = elim (cases_lt high low) [ in
         omega arith
 
 -- what costs nothing, and what costs all
-pub only_nothing : (small : Type 0) (near : ℕ) (price : Fraction) (low high : ℕ) → price.num ≡ 0 → 1 ≤ price.den → CoversPrice small near price low high → (low ≡ 0) × (high ≡ 0)
+pub only_nothing : (small : Type 0) (near : ℕ) (price : Fraction) (low high : ℕ) → price.num ≡ 0
+    → 1 ≤ price.den → CoversPrice small near price low high → (low ≡ 0) × (high ≡ 0)
 only_nothing small near price low high nothing some h =
     let high_is = h.never nothing in
     let order = covers_in_order small near price low high some h in
     (omega arith, high_is)
 
-pub only_all : (small : Type 0) (near : ℕ) (price : Fraction) (low high : ℕ) → price.num ≡ price.den → 1 ≤ price.den → CoversPrice small near price low high → (low ≡ 10 ^ 10) × (high ≡ 10 ^ 10)
+pub only_all : (small : Type 0) (near : ℕ) (price : Fraction) (low high : ℕ) → price.num ≡ price.den
+    → 1 ≤ price.den → CoversPrice small near price low high → (low ≡ 10 ^ 10) × (high ≡ 10 ^ 10)
 only_all small near price low high all some h =
     let low_is = h.sure all in
     let order = covers_in_order small near price low high some h in
     (low_is, omega (arith, h.at_most_one))
 
-pub nothing_covers : (small : Type 0) (most_trades : ℕ) (price : Fraction) (low high : ℕ) → price.num ≡ 0 → 1 ≤ price.den → (low ≡ 0) × (high ≡ 0) → CoversPrice small (sharpness most_trades) price low high
+pub nothing_covers : (small : Type 0) (most_trades : ℕ) (price : Fraction) (low high : ℕ)
+    → price.num ≡ 0 → 1 ≤ price.den → (low ≡ 0) × (high ≡ 0)
+    → CoversPrice small (sharpness most_trades) price low high
 nothing_covers small most_trades price low high nothing some are = rw (are.0, are.1) (record {
   below = omega arith;
   above = omega (arith, nothing);
@@ -154,7 +171,9 @@ nothing_covers small most_trades price low high nothing some are = rw (are.0, ar
   ceiling = λ _. omega (arith, nothing, some);
 })
 
-pub all_covers : (small : Type 0) (most_trades : ℕ) (price : Fraction) (low high : ℕ) → price.num ≡ price.den → 1 ≤ price.den → (low ≡ 10 ^ 10) × (high ≡ 10 ^ 10) → CoversPrice small (sharpness most_trades) price low high
+pub all_covers : (small : Type 0) (most_trades : ℕ) (price : Fraction) (low high : ℕ)
+    → price.num ≡ price.den → 1 ≤ price.den → (low ≡ 10 ^ 10) × (high ≡ 10 ^ 10)
+    → CoversPrice small (sharpness most_trades) price low high
 all_covers small most_trades price low high all some are = rw (are.0, are.1) (record {
   below = omega (arith, all);
   above = omega (arith, all);

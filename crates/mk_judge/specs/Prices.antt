@@ -41,5 +41,6 @@ AreNearUnits near price low high steps =
 abbrev pub IsPriceNear : ℕ → PriceBounds → Fraction → ℕ → ℕ → Type 0
 IsPriceNear near Never price low high = ⊥
 IsPriceNear near Always price low high = ⊥
-IsPriceNear near (Between part whole) price low high = (g h : ℕ) → HasGrade part g → HasGrade whole h
+IsPriceNear near (Between part whole) price low high =
+    (g h : ℕ) → HasGrade part g → HasGrade whole h
     → AreNearUnits near price low high (g + h + 2)

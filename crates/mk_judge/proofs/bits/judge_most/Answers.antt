@@ -1,4 +1,5 @@
-use Rattle.std.proofs.Common.{◌≡◌, ℕ, ◌+◌, ◌-◌, ◌*◌, ◌^◌, ◌<◌, ◌≤◌, ◌⊎◌, inl, inr, arith, le_refl, subst}
+use Rattle.std.proofs.Common.{◌≡◌, ℕ, ◌+◌, ◌-◌, ◌*◌, ◌^◌, ◌<◌, ◌≤◌, ◌⊎◌, inl, inr, arith, le_refl}
+use Rattle.std.proofs.Common.{subst}
 use Rattle.std.proofs.lemmas.Nat.{pow-add}
 use Rattle.mk_net.specs.Bounds.{sharpness}
 use Rattle.mk_exact.specs.Factors.{Fraction}
@@ -7,16 +8,20 @@ use Rattle.mk_enclose.specs.Enclosure.{HasGrade}
 use Rattle.mk_judge.specs.Compared.{AreNear}
 use Rattle.mk_judge.specs.Judged.{Judges}
 use Rattle.mk_judge.specs.Cash.{IsOwned}
-use Rattle.mk_judge.proofs.Cashing.{one_beside, idle_beside, whole_most, gain_less_in_range, part_below}
+use Rattle.mk_judge.proofs.Cashing.{one_beside, idle_beside, whole_most, gain_less_in_range}
+use Rattle.mk_judge.proofs.Cashing.{part_below}
 use Rattle.mk_judge.proofs.bits.judge_most.Goals as goal
 
 pub nearly-requires-clause-range : goal.nearly-requires-clause-range
 nearly-requires-clause-range c =
     let r = c.requires.range in
-    gain_less_in_range _ r.bits 1 _ r.gain (le_refl 1) r.above _ (part_below (c.near_bits.result + 1) (let few = c.near_bits.ensures.few in omega (arith, few)))
+    gain_less_in_range _ r.bits 1 _ r.gain (le_refl 1) r.above _
+    (part_below (c.near_bits.result + 1)
+    (let few = c.near_bits.ensures.few in omega (arith, few)))
 
 twice : (bits near : ℕ) → 2 ^ bits ≡ near → 2 ^ (bits + 1) ≡ 2 * near
-twice bits near same = let e : 2 ^ (bits + 1) ≡ 2 ^ bits * 2 ^ 1 = pow-add 2 bits 1 in omega (arith, e, same)
+twice bits near same =
+    let e : 2 ^ (bits + 1) ≡ 2 ^ bits * 2 ^ 1 = pow-add 2 bits 1 in omega (arith, e, same)
 
 -- the bits by a market's number
 told_nearly : (c : goal.After-nearly) (q : Fraction) → IsOwned c.args.factor.now q
@@ -32,12 +37,15 @@ told_nearly c q owned =
     ((h : ℕ) → HasGrade c.args.factor.now.gain h → AreNear (2 ^ c.args.most * q.den) q.num (h + 1)
     ⊎ AreNear (2 ^ (c.args.most + 1) * n * q.den) (q.num * (n - 1)) (h + 1)))
     (twice c.near_bits.result (sharpness c.args.most_trades) c.near_bits.ensures.value)
-    (c.nearly.ensures owned.held.stands.gain q.num q.den owned.held.stands.encloses (one_beside c.args.factor.now q c.of-scale.result owned.held.stands c.of-scale.ensures.gained c.of-scale.ensures.owed))
+    (c.nearly.ensures owned.held.stands.gain q.num q.den owned.held.stands.encloses
+    (one_beside c.args.factor.now q c.of-scale.result owned.held.stands
+    c.of-scale.ensures.gained c.of-scale.ensures.owed))
 
 pub returns-then-factor-eq0-clause-allowed : goal.returns-then-factor-eq0-clause-allowed
 returns-then-factor-eq0-clause-allowed c e q owned exact =
     let told = rw e at (c.whole.ensures 1 q.num q.den c.exact.ensures.encloses c.exact.ensures.exact (idle_beside c.args.factor.now q c.of-scale.result owned c.if-factor-eq0.true c.of-scale.ensures.gained c.of-scale.ensures.owed)) in
-    whole_most _ _ (sharpness c.args.most_trades) q c.args.most (sharp_enough c.args.most_trades) (told.0) (told.1)
+    whole_most _ _ (sharpness c.args.most_trades) q c.args.most (sharp_enough c.args.most_trades)
+    (told.0) (told.1)
 
 pub returns-then-factor-eq0-clause-wrong : goal.returns-then-factor-eq0-clause-wrong
 returns-then-factor-eq0-clause-wrong c e q owned exact is =
@@ -51,7 +59,8 @@ returns-then-factor-eq0-clause-unclear c e q owned exact =
 pub returns-then-small-clause-allowed : goal.returns-then-small-clause-allowed
 returns-then-small-clause-allowed c e q owned exact =
     let told = rw e at (c.whole-then-small.ensures owned.held.stands.gain q.num q.den owned.held.stands.encloses (exact c.if-small.true) (one_beside c.args.factor.now q c.of-scale.result owned.held.stands c.of-scale.ensures.gained c.of-scale.ensures.owed)) in
-    whole_most _ _ (sharpness c.args.most_trades) q c.args.most (sharp_enough c.args.most_trades) (told.0) (told.1)
+    whole_most _ _ (sharpness c.args.most_trades) q c.args.most (sharp_enough c.args.most_trades)
+    (told.0) (told.1)
 
 pub returns-then-small-clause-wrong : goal.returns-then-small-clause-wrong
 returns-then-small-clause-wrong c e q owned exact is =

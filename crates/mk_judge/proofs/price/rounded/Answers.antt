@@ -28,9 +28,17 @@ returns c = λ price most_trades is.
     let O : Type 0 = LeavesOpen part whole ((low + 1) * (price.den * 1)) n in
     let T : Type 0 = LeavesOpen part whole n (before * (price.den * 1)) in
     let covers : P × Q × R × S → CoversPrice ⊤ (sharpness most_trades) price low high =
-    (λ all. rounded_covers price low high some is.less (sharpness most_trades) (sharp_enough most_trades) c.requires.at_most (record { below = all.0; above = all.1; floor = all.2; ceiling = rw (← same) (all.3) })) in
+    (λ all. rounded_covers price low high some is.less (sharpness most_trades)
+    (sharp_enough most_trades) c.requires.at_most
+    (record {
+      below = all.0;
+      above = all.1;
+      floor = all.2;
+      ceiling = rw (← same) (all.3);
+    })) in
     let close : CoversPrice ⊤ (sharpness most_trades) price low high → P × Q × R × S =
-    (λ h. let k = covers_rounded price low high some is.less (sharpness most_trades) h in (k.below, k.above, k.floor, rw same k.ceiling)) in
+    (λ h. let k = covers_rounded price low high some is.less (sharpness most_trades) h in
+    (k.below, k.above, k.floor, rw same k.ceiling)) in
     let never : M ⊎ (N ⊎ (O ⊎ T)) → ⊥ =
     (λ known. elim known [
       | inl m ↦ m.rounded (is.part_exact refl) (is.whole_exact refl)
@@ -47,4 +55,5 @@ returns c = λ price most_trades is.
     (rw c.above-ceiling.ensures (judges_above c.compare_above-2.result _ _ T (c.compare_above-2.ensures price.num price.den is.part_holds is.whole_holds))) in
     rw (c.and-3.ensures, c.and-2.ensures, c.and.ensures)
     (judges_as (both (both (both c.at_most-below.result c.at_most-above.result) c.above-floor.result) c.above-ceiling.result)
-    (P × Q × R × S) (CoversPrice ⊤ (sharpness most_trades) price low high) (M ⊎ (N ⊎ (O ⊎ T))) ⊥ covers close never four)
+    (P × Q × R × S) (CoversPrice ⊤ (sharpness most_trades) price low high) (M ⊎ (N ⊎ (O ⊎ T))) ⊥
+    covers close never four)
