@@ -1,5 +1,7 @@
 -- The bounds of a question in a market in use.
-use Rattle.std.proofs.Common.{◌≡◌, ℕ, ◌+◌, ◌-◌, ◌^◌, ◌<◌, ◌≤◌, max, Bool, false, List, length, slice_index, Option, Some, None, IsSome, IsSomeAnd, not, refl, sym, ap, subst, ◌∙◌, arith}
+use Rattle.std.proofs.Common.{◌≡◌, ℕ, ◌+◌, ◌-◌, ◌^◌, ◌<◌, ◌≤◌, max, Bool, false, List, length}
+use Rattle.std.proofs.Common.{slice_index, Option, Some, None, IsSome, IsSomeAnd, not, refl, sym}
+use Rattle.std.proofs.Common.{ap, subst, ◌∙◌, arith}
 use Rattle.std.specs.Prelude.{◌&&◌}
 use Rattle.std.proofs.lemmas.List.Filters.{sum_by-filter_both}
 use Rattle.mk_net.specs.declared.words.Pair.{Pair}
@@ -116,14 +118,20 @@ pub record BoundsSide (bounds : SideBounds) (small : Type 0) (side : Side) : Typ
 module _ (network : List Variable) (H : List Entry) (u : ℕ) (asked : Asked) (test : List ℕ → Bool) (part whole : Enclosure) (f : Factor)
     (part_in : IsFoundOf part (IsSmall network H) (total network H test)) (whole_in : IsFoundOf whole (IsSmall network H) (total network H (holds asked.condition)))
     (share : total network H test ≤ total network H (holds asked.condition))
-    (for : (g : ℕ) → least_gain network H u test ≡ Some g → IsFactorFor f max_market_trades (IsSmall network H) (factor_with H u g)) where
+    (for : (g : ℕ) → least_gain network H u test ≡ Some g
+    → IsFactorFor f max_market_trades (IsSmall network H) (factor_with H u g)) where
   at_gain : (g : ℕ) → least_gain network H u test ≡ Some g
       → BoundsSide (record { part = part; whole = whole; factor = f }) (IsSmall network H) (record { price = price_where network H asked.condition test; least = factor_with H u g })
   at_gain g e =
       let of = for g e in
       record {
         bounded = record { part = part_in.encloses; whole = whole_in.encloses; share = share; least = of.stands };
-        graded = record { part = part_in.graded; whole = whole_in.graded; gain = within_more f.gain (grade_room max_market_trades) widest_grade (room_at_most max_market_trades) of.graded };
+        graded = record {
+          part = part_in.graded;
+          whole = whole_in.graded;
+          gain = within_more f.gain (grade_room max_market_trades) widest_grade
+              (room_at_most max_market_trades) of.graded;
+        };
         exact = λ s. record { part = part_in.exact s; whole = whole_in.exact s; gain = of.exact s };
       }
 
@@ -158,8 +166,12 @@ module _ (network : List Variable) (tree : GivenTree) (H : List Entry) (u : ℕ)
           some_least (holding_of network tree H u) (exact_belief least (gains_of network tree H u) event) most result least_is (hit_gain event its_pairs (found.0) (found.1)).1
 
       pub hit_for : (f : Factor) → result ≡ Some f → most ≤ length (gains_of network tree H u).factors + max_grade + max_values
-          → (g : ℕ) → least_gain network H u (with_target asked) ≡ Some g → IsFactorFor f max_market_trades (IsSmall network H) (factor_with H u g)
-      hit_for f is close g e = factor_for network tree H u is_open (exact_belief least (gains_of network tree H u) event) most result f is least_is close max_market_trades is_open.within.few_trades g (hit_gain event its_pairs g e).0
+          → (g : ℕ) → least_gain network H u (with_target asked) ≡ Some g
+          → IsFactorFor f max_market_trades (IsSmall network H) (factor_with H u g)
+      hit_for f is close g e =
+          factor_for network tree H u is_open (exact_belief least (gains_of network tree H u) event)
+          most result f is least_is close max_market_trades is_open.within.few_trades g
+          (hit_gain event its_pairs g e).0
 
     module _ (values : ℕ) (sized : values ≡ slice_index (sizes network) asked.target.variable) (most : ℕ) (result : Option Factor)
         (least_is : IsLeastFactor (holding_of network tree H u) (exact_others least (gains_of network tree H u) asked values) most result) where
@@ -169,8 +181,13 @@ module _ (network : List Variable) (tree : GivenTree) (H : List Entry) (u : ℕ)
           some_least (holding_of network tree H u) (exact_others least (gains_of network tree H u) asked values) most result least_is (miss_gain values sized (found.0) (found.1)).1
 
       pub miss_for : (f : Factor) → result ≡ Some f → most ≤ length (gains_of network tree H u).factors + max_grade + max_values
-          → (g : ℕ) → least_gain network H u (without_target asked) ≡ Some g → IsFactorFor f max_market_trades (IsSmall network H) (factor_with H u g)
-      miss_for f is close g e = factor_for network tree H u is_open (exact_others least (gains_of network tree H u) asked values) most result f is least_is close max_market_trades is_open.within.few_trades g (miss_gain values sized g e).0
+          → (g : ℕ) → least_gain network H u (without_target asked) ≡ Some g
+          → IsFactorFor f max_market_trades (IsSmall network H) (factor_with H u g)
+      miss_for f is close g e =
+          factor_for network tree H u is_open
+          (exact_others least (gains_of network tree H u) asked values) most result f is
+          least_is close max_market_trades is_open.within.few_trades g
+          (miss_gain values sized g e).0
 
     -- what a call for the other values asks of an engine
     pub can_ask : {E : Type 0} (stands_for : E → Meaning
@@ -200,8 +217,10 @@ module _ (network : List Variable) (tree : GivenTree) (H : List Entry) (u : ℕ)
 module _ (network : List Variable) (H : List Entry) (u : ℕ) (asked : Asked) (hit miss whole : Enclosure) (hit_factor miss_factor : Factor)
     (hit_in : IsBeliefIn (Present hit) (IsSmall network H) (total network H (with_target asked)))
     (miss_in : IsBeliefIn (Present miss) (IsSmall network H) (total network H (without_target asked))) (whole_is : IsSumOf hit miss whole)
-    (hit_least : (g : ℕ) → least_gain network H u (with_target asked) ≡ Some g → IsFactorFor hit_factor max_market_trades (IsSmall network H) (factor_with H u g))
-    (miss_least : (g : ℕ) → least_gain network H u (without_target asked) ≡ Some g → IsFactorFor miss_factor max_market_trades (IsSmall network H) (factor_with H u g)) where
+    (hit_least : (g : ℕ) → least_gain network H u (with_target asked) ≡ Some g
+    → IsFactorFor hit_factor max_market_trades (IsSmall network H) (factor_with H u g))
+    (miss_least : (g : ℕ) → least_gain network H u (without_target asked) ≡ Some g
+    → IsFactorFor miss_factor max_market_trades (IsSmall network H) (factor_with H u g)) where
   whole_in : IsWholeFor network H asked whole
   whole_in = sum_is_whole network H asked hit miss whole hit_in miss_in whole_is
 

@@ -167,8 +167,10 @@ module _ (network : List Variable) (tree : GivenTree) (H : List Entry) (u : ℕ)
         let same = counted in
         let own = own_few in
         powers_in_range f b (63 * trade_count H u + 1) (top_few small)
-        (product_small b (paid_in f.net + (63 * trade_count H u + 1)) h (omega (arith, paid, few_in, own)))
-        (product_small b (40 * f.trades + taken_out f.net) h (omega (arith, taken, few_out, same, own)))
+        (product_small b (paid_in f.net + (63 * trade_count H u + 1)) h
+        (omega (arith, paid, few_in, own)))
+        (product_small b (40 * f.trades + taken_out f.net) h
+        (omega (arith, taken, few_out, same, own)))
 
   -- the least gain over all possible states
   pub always_some : 1 ≤ exact_belief least (gains_of network tree H u) []
@@ -229,4 +231,6 @@ module _ (network : List Variable) (tree : GivenTree) (H : List Entry) (u : ℕ)
           most result f is over_all close always_small few_in few_out
 
       pub worst_in_range : deposited H u ≤ max_bits → withdrawn H u ≤ max_bits → (b : ℕ) → b ≤ max_points_per_bit → HasPowersInRange f b
-      worst_in_range few_in few_out = factor_in_range (exact_belief least (gains_of network tree H u) []) most result f is over_all close always_small few_in few_out
+      worst_in_range few_in few_out =
+          factor_in_range (exact_belief least (gains_of network tree H u) []) most result f is
+          over_all close always_small few_in few_out

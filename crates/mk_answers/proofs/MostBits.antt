@@ -76,7 +76,8 @@ one_alone near low high wide some few most close = at high most close
     at zero most close = absurd (omega arith)
     at (suc zero) most close = one
     at (suc (suc n)) most close =
-        let top : 2 * (2 * near - 1) ≤ suc (suc n) * (2 * near - 1) = mul-le-mul_right (2 * near - 1)
+        let top : 2 * (2 * near - 1) ≤ suc (suc n) * (2 * near - 1) =
+        mul-le-mul_right (2 * near - 1)
         (omega arith) in
         let less : suc (suc n) * (2 * near - 1) ≤ 1 * (2 * near) = rw one at close in
         absurd (omega arith)

@@ -1,5 +1,6 @@
 -- Evidence of exact numbers has whatever greatest grade its enclosures have.
-use Rattle.std.proofs.Common.{◌≡◌, ℕ, ◌-◌, ◌≤◌, List, [], ◌∷◌, map, Bool, Option, Some, None, IfSome, subst, arith}
+use Rattle.std.proofs.Common.{◌≡◌, ℕ, ◌-◌, ◌≤◌, List, [], ◌∷◌, map, Bool, Option, Some, None}
+use Rattle.std.proofs.Common.{IfSome, subst, arith}
 use Rattle.std.specs.Prelude.{option_map, IsSomeAnd}
 use Rattle.std.specs.List.{AllByRecursion, AllZip}
 use Rattle.mk_net.specs.Asked.{Asked}
@@ -48,7 +49,8 @@ held_grade belief e g is graded = (subst (λ (x : Held). HasHeldGrade x g) is gr
 pub graded_of_present : (belief : Held) (e : Enclosure) (most_trades : ℕ) → belief ≡ Present e
     → HasHeldGrade belief (grade_room most_trades - 1) → IsGradedWithin e (grade_room most_trades)
 graded_of_present belief e most_trades is graded =
-    graded_within e (grade_room most_trades - 1) (grade_room most_trades) (one_less (grade_room most_trades))
+    graded_within e (grade_room most_trades - 1) (grade_room most_trades)
+    (one_less (grade_room most_trades))
     (held_grade belief e (grade_room most_trades - 1) is graded)
   where
     one_less : (room : ℕ) → room - 1 ≤ room

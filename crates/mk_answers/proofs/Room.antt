@@ -46,7 +46,8 @@ few_steps : (factors count room : ℕ) → factors ≤ max_variables + count
 few_steps factors count room few fits = omega (arith, few, fits)
 
 module _ (network : List Variable) (tree : GivenTree) (H : List Entry)
-    (is_open : IsOpen network tree H) (most_trades : ℕ) (fit : length (trades H) ≤ most_trades) where
+    (is_open : IsOpen network tree H) (most_trades : ℕ)
+    (fit : length (trades H) ≤ most_trades) where
   -- a belief of the weights, and of a user's gains, leaves room for a step more
   pub weights_room : length (weights_of network tree H).factors + max_grade + max_values
       ≤ grade_room most_trades - 1

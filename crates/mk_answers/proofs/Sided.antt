@@ -53,29 +53,42 @@ covers_all small near w wide some =
 module _ (network : List Variable) (H : List Entry) (most_trades : ℕ) (asked : Asked) where
   -- a price that is found
   pub priced : 1 ≤ total network H (holds asked.condition) → (price : ℕ × ℕ)
-      → CoversPrice (IsSmall network H) (sharpness most_trades) (exact_price network H asked) price.0 price.1
+      → CoversPrice (IsSmall network H) (sharpness most_trades) (exact_price network H asked)
+      price.0 price.1
       → IsPriceFor network H most_trades asked (Some price)
   priced some price covers = record {
     none = (λ e. absurd (cc), λ e. absurd (let comes = weighed_comes network H (holds asked.condition) some in cc));
     covers = covers;
   }
 
-  pub unpriced : IsNetwork network → IsProper network H → total network H (with_target asked) ≡ 0 → total network H (without_target asked) ≡ 0 → IsPriceFor network H most_trades asked None
+  pub unpriced : IsNetwork network → IsProper network H → total network H (with_target asked) ≡ 0
+      → total network H (without_target asked) ≡ 0 → IsPriceFor network H most_trades asked None
   unpriced net proper no_hit no_miss =
       let all = cases_are_all network H asked in
       record { none = (λ e. absent_never network H (holds asked.condition) net proper (omega (arith, all, no_hit, no_miss)), λ e. refl); covers = tt }
 
-  pub priced_never : total network H (with_target asked) ≡ 0 → 1 ≤ total network H (without_target asked) → IsPriceFor network H most_trades asked (Some (0, 0))
+  pub priced_never : total network H (with_target asked) ≡ 0
+      → 1 ≤ total network H (without_target asked)
+      → IsPriceFor network H most_trades asked (Some (0, 0))
   priced_never no_hit some_miss =
       let all = cases_are_all network H asked in
       let some : 1 ≤ total network H (holds asked.condition) = omega (arith, all) in
-      priced some (0, 0) (subst (λ (n : ℕ). CoversPrice (IsSmall network H) (sharpness most_trades) (record { num = n; den = total network H (holds asked.condition) }) 0 0) (sym no_hit)
-      (covers_nothing (IsSmall network H) (sharpness most_trades) (total network H (holds asked.condition)) (sharp_enough most_trades) some))
+      priced some (0, 0)
+      (subst (λ (n : ℕ). CoversPrice (IsSmall network H) (sharpness most_trades)
+      (record { num = n; den = total network H (holds asked.condition) }) 0 0) (sym no_hit)
+      (covers_nothing (IsSmall network H) (sharpness most_trades)
+      (total network H (holds asked.condition)) (sharp_enough most_trades) some))
 
-  pub priced_sure : 1 ≤ total network H (with_target asked) → total network H (without_target asked) ≡ 0 → IsPriceFor network H most_trades asked (Some (10 ^ 10, 10 ^ 10))
+  pub priced_sure : 1 ≤ total network H (with_target asked)
+      → total network H (without_target asked) ≡ 0
+      → IsPriceFor network H most_trades asked (Some (10 ^ 10, 10 ^ 10))
   priced_sure some_hit no_miss =
       let all = cases_are_all network H asked in
       let some : 1 ≤ total network H (holds asked.condition) = omega (arith, all) in
       let same : total network H (holds asked.condition) ≡ total network H (with_target asked) = omega (arith, all, no_miss) in
-      priced some (10 ^ 10, 10 ^ 10) (subst (λ (n : ℕ). CoversPrice (IsSmall network H) (sharpness most_trades) (record { num = n; den = total network H (holds asked.condition) }) (10 ^ 10) (10 ^ 10)) same
-      (covers_all (IsSmall network H) (sharpness most_trades) (total network H (holds asked.condition)) (sharp_enough most_trades) some))
+      priced some (10 ^ 10, 10 ^ 10)
+      (subst (λ (n : ℕ). CoversPrice (IsSmall network H) (sharpness most_trades)
+      (record { num = n; den = total network H (holds asked.condition) }) (10 ^ 10)
+      (10 ^ 10)) same
+      (covers_all (IsSmall network H) (sharpness most_trades)
+      (total network H (holds asked.condition)) (sharp_enough most_trades) some))

@@ -80,7 +80,10 @@ module _ (network : List Variable) (tree : GivenTree) (H : List Entry) (u : ℕ)
         none = (λ e. absurd (cc), λ e. absurd (let no = comes in cc));
         bounds = record {
           part = part_for;
-          factor = λ g e. factor_for network tree H u is_open (exact_belief least (gains_of network tree H u) event) most result f same least_is close max_market_trades is_open.within.few_trades g
+          factor = λ g e.
+              factor_for network tree H u is_open
+              (exact_belief least (gains_of network tree H u) event) most result f same least_is
+              close max_market_trades is_open.within.few_trades g
               (hit_gain network tree H u is_open asked event its_pairs g e).0;
         };
       }

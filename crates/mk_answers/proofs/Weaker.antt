@@ -14,7 +14,8 @@ use Rattle.mk_quote.specs.Bounds.{AreFairAndSolvent, AreRightFor, AreAllExact}
 use Rattle.mk_answers.specs.Open.{AreBoundsFor}
 
 module _ (small exact : Type 0) (then : small → exact) where
-  pub covers_when : (near : ℕ) (price : Fraction) (low high : ℕ) → CoversPrice exact near price low high
+  pub covers_when : (near : ℕ) (price : Fraction) (low high : ℕ)
+      → CoversPrice exact near price low high
       → CoversPrice small near price low high
   covers_when near price low high covers = record {
     below = covers.below;

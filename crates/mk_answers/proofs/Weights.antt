@@ -1,5 +1,6 @@
 -- The price engine's beliefs in a market in use.
-use Rattle.std.proofs.Common.{◌≡◌, ℕ, ◌+◌, ◌-◌, ◌≤◌, List, [], ◌∷◌, length, slice_index, sym, ap, subst, ◌∙◌, arith, le_refl}
+use Rattle.std.proofs.Common.{◌≡◌, ℕ, ◌+◌, ◌-◌, ◌≤◌, List, [], ◌∷◌, length, slice_index, sym, ap}
+use Rattle.std.proofs.Common.{subst, ◌∙◌, arith, le_refl}
 use Rattle.std.proofs.lemmas.List.Elements.{All-from_recursion}
 use Rattle.mk_net.specs.declared.words.Pair.{Pair}
 use Rattle.mk_net.specs.Asked.{Asked}
@@ -63,11 +64,13 @@ module _ (network : List Variable) (tree : GivenTree) (H : List Entry) (is_open 
     pub event_graded : (event : List Pair) (belief : Held) → IsWeightOf network tree H event belief
         → HasHeldGrade belief (grade_room most_trades - 1)
     event_graded event belief b = held_grade_more belief
-        (length (weights_of network tree H).factors + max_grade) (grade_room most_trades - 1) b.grade
+        (length (weights_of network tree H).factors + max_grade) (grade_room most_trades - 1)
+        b.grade
         (omega (arith, weights_room network tree H is_open most_trades fit))
 
     pub others_graded : (asked : Asked) (values : ℕ) (belief : Held)
-        → IsOthersBelief HeldEncloses HasHeldGrade IsHeldExact ◌+◌ (weights_of network tree H) asked values belief
+        → IsOthersBelief HeldEncloses HasHeldGrade IsHeldExact ◌+◌ (weights_of network tree H)
+        asked values belief
         → HasHeldGrade belief (grade_room most_trades - 1)
     others_graded asked values belief b = held_grade_more belief _ (grade_room most_trades - 1)
         b.grade (weights_room network tree H is_open most_trades fit)
@@ -86,7 +89,8 @@ module _ (network : List Variable) (tree : GivenTree) (H : List Entry) (is_open 
     condition_in event belief e b = in_same belief (IsSmall network H) _ _ (ap (λ (ps : List Pair). total network H (holds ps)) e) (event_in event belief b)
 
     pub miss_in : (values : ℕ) (belief : Held) → IsQuestionOf network asked → values ≡ slice_index (sizes network) asked.target.variable
-        → IsOthersBelief HeldEncloses HasHeldGrade IsHeldExact ◌+◌ (weights_of network tree H) asked values belief
+        → IsOthersBelief HeldEncloses HasHeldGrade IsHeldExact ◌+◌ (weights_of network tree H)
+        asked values belief
         → IsBeliefIn belief (IsSmall network H) (total network H (without_target asked))
     miss_in values belief fits sized b = record {
       encloses = subst (HeldEncloses belief) (ap (λ n. exact_others ◌+◌ (weights_of network tree H) asked n) sized ∙ others_are_total network tree H asked fits) b.value;
@@ -106,13 +110,20 @@ module _ (network : List Variable) (H : List Entry) (asked : Asked) where
     pub interval_covers : (most_trades : ℕ) → IsGradedWithin num (grade_room most_trades)
         → IsGradedWithin den (grade_room most_trades)
         → 1 ≤ total network H (without_target asked) → (low high : ℕ) → ArePartsOf num den low high
-        → CoversPrice (IsSmall network H) (sharpness most_trades) (exact_price network H asked) low high
+        → CoversPrice (IsSmall network H) (sharpness most_trades) (exact_price network H asked)
+        low high
     interval_covers most_trades num_graded den_graded rest low high parts =
         let all = cases_are_all network H asked in
-        covers_when (IsSmall network H) (IsExact num × IsExact den) (λ s. (num_in.exact s, den_in.exact s)) (sharpness most_trades) (exact_price network H asked) low high
-        (parts_cover (sharpness most_trades) (grade_room most_trades) (room_is_wide most_trades) (sharp_enough most_trades)
-        num den _ _ (grade_room most_trades) low high num_in.encloses den_in.encloses (some_weight den _ den_in.encloses) hit_share (omega (arith, all)) (le_refl _)
-        (grade_more num num_graded.grade (grade_room most_trades) num_graded.small num_graded.has) (grade_more den den_graded.grade (grade_room most_trades) den_graded.small den_graded.has) parts)
+        covers_when (IsSmall network H) (IsExact num × IsExact den)
+        (λ s. (num_in.exact s, den_in.exact s)) (sharpness most_trades)
+        (exact_price network H asked) low high
+        (parts_cover (sharpness most_trades) (grade_room most_trades) (room_is_wide most_trades)
+        (sharp_enough most_trades)
+        num den _ _ (grade_room most_trades) low high num_in.encloses den_in.encloses
+        (some_weight den _ den_in.encloses) hit_share (omega (arith, all)) (le_refl _)
+        (grade_more num num_graded.grade (grade_room most_trades) num_graded.small num_graded.has)
+        (grade_more den den_graded.grade (grade_room most_trades) den_graded.small
+        den_graded.has) parts)
 
 -- the network's own pairs, in a condition
 pub condition_fits : (network : List Variable) (asked : Asked) (event : List Pair) → event ≡ asked.condition → IsQuestionOf network asked → ArePairsOf network event

@@ -24,7 +24,8 @@ use Rattle.mk_answers.specs.Open.{AreBoundsFor, AreSideBoundsFor}
 pub record IsPriceFor (network : List Variable) (H : List Entry) (most_trades : ℕ) (asked : Asked)
     (found : Option (ℕ × ℕ)) : Type 0 where
   pub none : IsNone found ↔ (cannot_come network H (holds asked.condition) ≡ true)
-  pub covers : IfSome found (λ (price : ℕ × ℕ). CoversPrice (IsSmall network H) (sharpness most_trades)
+  pub covers : IfSome found
+      (λ (price : ℕ × ℕ). CoversPrice (IsSmall network H) (sharpness most_trades)
       (exact_price network H asked) price.0 price.1)
 
 -- the place, from 0, of the first pair of a list with which, beside some pairs and those before it, no possible state is left

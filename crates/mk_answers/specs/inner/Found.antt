@@ -100,7 +100,8 @@ pub record CanOpen {E P : Type 0} (stands_for : E → Meaning
 -- over them
 pub record AreValueBoundsOf (network : List Variable) (H : List Entry) (u : ℕ) (asked : Asked) (value : ValueBounds) : Type 0 where
   pub part : IsPartFor network H asked value.part
-  pub factor : (g : ℕ) → least_gain network H u (with_target asked) ≡ Some g → IsFactorFor value.factor max_market_trades
+  pub factor : (g : ℕ) → least_gain network H u (with_target asked) ≡ Some g
+      → IsFactorFor value.factor max_market_trades
       (IsSmall network H) (factor_with H u g)
 
 -- such bounds, or none where it cannot

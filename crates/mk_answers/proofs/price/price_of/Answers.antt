@@ -12,7 +12,8 @@ use Rattle.mk_answers.proofs.Homes.{condition_is_held}
 use Rattle.mk_answers.proofs.NoZeros.{hit_some, miss_some, condition_some, none_of}
 use Rattle.mk_answers.proofs.Sided.{priced}
 use Rattle.mk_answers.proofs.Regraded.{graded_of_present}
-use Rattle.mk_answers.proofs.Weights.{is_there, hit_in, part_in, miss_in, condition_in, event_graded, others_graded, ends_in_order, interval_covers}
+use Rattle.mk_answers.proofs.Weights.{is_there, hit_in, part_in, miss_in, condition_in}
+use Rattle.mk_answers.proofs.Weights.{event_graded, others_graded, ends_in_order, interval_covers}
 use Rattle.mk_answers.proofs.price.price_of.Goals as goal
 
 pub belief_of_others-rest-requires : goal.belief_of_others-rest-requires
@@ -45,14 +46,19 @@ returns-then-not-is_empty-clause-price g c = λ tree H most_trades stands is_ope
     let network = c.args.net.now in let asked = c.args.asked.now in let m = weights_of network tree H in
     let sized : c.values-values.result ≡ slice_index (sizes network) asked.target.variable = rw c.target.ensures at c.values-values.ensures in
     let on_part = c.belief-part.ensures.belief m stands in
-    let on_rest = c.belief_of_others-rest.ensures.belief m (c.belief-part.ensures.kept m stands) sized in
+    let on_rest =
+    c.belief_of_others-rest.ensures.belief m (c.belief-part.ensures.kept m stands) sized in
     c.price_of_sides.ensures network H most_trades asked is_open.legal is_open.proper (record {
-      hit = hit_in network tree H is_open asked c.event.result c.belief-part.result c.event.ensures.pairs on_part;
+      hit = hit_in network tree H is_open asked c.event.result c.belief-part.result
+          c.event.ensures.pairs on_part;
       miss =
-          miss_in network tree H is_open asked c.values-values.result c.belief_of_others-rest.result answered.in_order.in_range sized on_rest;
+          miss_in network tree H is_open asked c.values-values.result c.belief_of_others-rest.result
+          answered.in_order.in_range sized on_rest;
     })
-    (event_graded network tree H is_open most_trades fit c.event.result c.belief-part.result on_part)
-    (others_graded network tree H is_open most_trades fit asked c.values-values.result c.belief_of_others-rest.result on_rest)
+    (event_graded network tree H is_open most_trades fit c.event.result c.belief-part.result
+    on_part)
+    (others_graded network tree H is_open most_trades fit asked c.values-values.result
+    c.belief_of_others-rest.result on_rest)
 
 pub belief-whole-requires-clause-held : goal.belief-whole-requires-clause-held
 belief-whole-requires-clause-held g c =
@@ -94,7 +100,8 @@ returns-clause-price g c = λ tree H most_trades stands is_open fit answered.
     let no_shares : with_zeros network ≡ [] = none_of c.with_zeros.result.now (with_zeros network) c.is_empty.result c.if-not-is_empty.false c.is_empty.ensures c.with_zeros.ensures in
     let on_part = c.belief-part.ensures.belief m stands in
     let on_whole = c.belief-whole.ensures.belief m (c.belief-part.ensures.kept m stands) in
-    priced network H most_trades asked (condition_some network tree H is_open asked answered no_shares) c.parts.result
+    priced network H most_trades asked
+    (condition_some network tree H is_open asked answered no_shares) c.parts.result
     (interval_covers network H asked c.enclosure_of.result c.enclosure_of-2.result
     (part_in network tree H is_open asked c.event.result c.belief-part.result c.enclosure_of.result c.event.ensures.pairs c.enclosure_of.ensures (c.belief-part.ensures.belief m stands))
     (found_of c.enclosure_of-2.result small _ (subst (λ (b : Held). IsBeliefIn b small (total network H (holds asked.condition))) c.enclosure_of-2.ensures
@@ -102,9 +109,12 @@ returns-clause-price g c = λ tree H most_trades stands is_open fit answered.
     (c.belief-whole.ensures.belief m (c.belief-part.ensures.kept m stands)))))
     most_trades
     (graded_of_present c.belief-part.result c.enclosure_of.result most_trades c.enclosure_of.ensures
-    (event_graded network tree H is_open most_trades fit c.event.result c.belief-part.result on_part))
-    (graded_of_present c.belief-whole.result c.enclosure_of-2.result most_trades c.enclosure_of-2.ensures
-    (event_graded network tree H is_open most_trades fit c.condition-condition.result c.belief-whole.result on_whole))
+    (event_graded network tree H is_open most_trades fit c.event.result c.belief-part.result
+    on_part))
+    (graded_of_present c.belief-whole.result c.enclosure_of-2.result most_trades
+    c.enclosure_of-2.ensures
+    (event_graded network tree H is_open most_trades fit c.condition-condition.result
+    c.belief-whole.result on_whole))
     (miss_some network tree H is_open asked answered no_shares) c.parts.result.0 c.parts.result.1
     (record {
       low_is = c.parts.ensures.low;

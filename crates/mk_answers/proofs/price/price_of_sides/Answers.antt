@@ -22,17 +22,21 @@ add-requires c =
 pub returns-in-Absent-Absent : goal.returns-in-Absent-Absent
 returns-in-Absent-Absent c = λ network H most_trades asked net proper sides on_part on_rest.
     let w = c.in-Absent-Absent in
-    unpriced network H most_trades asked net proper (at_value _ _ _ _ w.is-0 sides.hit).encloses (at_value _ _ _ _ w.is-1 sides.miss).encloses
+    unpriced network H most_trades asked net proper (at_value _ _ _ _ w.is-0 sides.hit).encloses
+    (at_value _ _ _ _ w.is-1 sides.miss).encloses
 
 pub returns-in-Absent-Present : goal.returns-in-Absent-Present
 returns-in-Absent-Present c = λ network H most_trades asked net proper sides on_part on_rest.
     let w = c.in-Absent-Present in
-    priced_never network H most_trades asked (at_value _ _ _ _ w.is-0 sides.hit).encloses (some_weight w.field-0-1 _ (at_value _ _ _ _ w.is-1 sides.miss).encloses)
+    priced_never network H most_trades asked (at_value _ _ _ _ w.is-0 sides.hit).encloses
+    (some_weight w.field-0-1 _ (at_value _ _ _ _ w.is-1 sides.miss).encloses)
 
 pub returns-in-Present-Absent : goal.returns-in-Present-Absent
 returns-in-Present-Absent c = λ network H most_trades asked net proper sides on_part on_rest.
     let w = c.in-Present-Absent in
-    priced_sure network H most_trades asked (some_weight w.field-0-0 _ (at_value _ _ _ _ w.is-0 sides.hit).encloses) (at_value _ _ _ _ w.is-1 sides.miss).encloses
+    priced_sure network H most_trades asked
+    (some_weight w.field-0-0 _ (at_value _ _ _ _ w.is-0 sides.hit).encloses)
+    (at_value _ _ _ _ w.is-1 sides.miss).encloses
 
 pub parts-requires-clause-part : goal.parts-requires-clause-part
 parts-requires-clause-part c =
@@ -47,7 +51,11 @@ returns-in-Present-Present c = λ network H most_trades asked net proper sides o
     let w = c.in-Present-Present in
     let hit = at_value _ _ _ _ w.is-0 sides.hit in let miss = at_value _ _ _ _ w.is-1 sides.miss in
     let is : IsSumOf w.part w.rest c.add.result =
-    record { encloses = c.add.ensures.encloses; grade = c.add.ensures.grade; exact = c.add.ensures.exact } in
+    record {
+      encloses = c.add.ensures.encloses;
+      grade = c.add.ensures.grade;
+      exact = c.add.ensures.exact;
+    } in
     let whole = sum_is_whole network H asked w.part w.rest c.add.result hit miss is in
     priced network H most_trades asked (some_weight c.add.result _ whole.encloses) c.parts.result
     (interval_covers network H asked w.part c.add.result hit whole most_trades

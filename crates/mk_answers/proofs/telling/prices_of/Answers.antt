@@ -90,5 +90,6 @@ returns-clause-prices g c = λ tree H most_trades stands is_open fit answered.
     let priced = c.loop-value.invariant.priced tree H most_trades stands is_open fit answered in
     let items = c.loop-value.intervals.items in (
       c.loop-value.invariant.comes tree H stands is_open answered some,
-      subst (λ (n : ℕ). AllZip (CoversValue net H most_trades spread) (range_with_len 0 n) items) all priced,
+      subst (λ (n : ℕ). AllZip (CoversValue net H most_trades spread) (range_with_len 0 n) items)
+          all priced,
     )

@@ -25,4 +25,5 @@ returns-in-Some-clause-sure g c = λ tree H most_trades u owns is_open fit sound
     c.event.ensures.pairs
     (sure net tree H u is_open c.event.result _ c.least.result
     (c.least.ensures.least (holding_of net tree H u) owns) c.in-Some.factor c.in-Some.is
-    (omega arith) most_trades fit sound c.args.points_per_bit (ends.0) (ends.1) c.cash.ensures.covers)
+    (omega arith) most_trades fit sound c.args.points_per_bit (ends.0) (ends.1)
+    c.cash.ensures.covers)
