@@ -4,15 +4,15 @@ use Rattle.std.specs.Prelude.{position}
 use Rattle.std.specs.List.{list_any, list_all}
 use Rattle.std.proofs.lemmas.Bool.{ltb-true, eqb-true, eq-eqb, and_parts, and_right, or_cases}
 use Rattle.std.proofs.lemmas.List.{map-append, take_more, take-append-drop}
-use Rattle.std.proofs.lemmas.List.Sums.{passes_at_first, fold_push}
+use Rattle.std.proofs.lemmas.List.Sums.{passes_at_first}
 use Rattle.std.proofs.lemmas.List.Folds.{list_all-append}
-use Rattle.mk_net.specs.declared.sets.VarSet.{VarSet}
 use Rattle.mk_net.specs.Name.{IsName}
 use Rattle.mk_net.specs.Named.{nobody}
 use Rattle.mk_net.specs.Network.{Variable}
-use Rattle.mk_net.specs.Sets.{is_member, no_variables, with_member}
+use Rattle.mk_net.specs.Sets.{VarSet, is_member, no_variables, with_member, set_of}
 use Rattle.mk_net.specs.Texts.{same_text}
 use Rattle.mk_net.specs.Checked.{has_double}
+use Rattle.mk_net.proofs.Members.{set_of_none, set_of_more}
 use Rattle.mk_net.proofs.SameText.{equal_of_same_text, same_text_of_equal}
 use Rattle.mk_file.specs.inner.Known.{number_in, is_known_in, is_bad_clique, set_in, IsSetOf}
 
@@ -100,7 +100,7 @@ held : (network : List Variable) (done : List (List ℕ)) (set : VarSet) (name :
 held network done set name reads known = reads.members (number_in network name) ∙ among network name done known reads.known
 
 pub reads_none : (network : List Variable) (set : VarSet) → set ≡ no_variables → ((x : ℕ) → is_member set x ≡ false) → ReadsClique network [] set
-reads_none network set empty none = record { known = refl; apart = refl; set_is = empty; members = none }
+reads_none network set empty none = record { known = refl; apart = refl; set_is = empty ∙ sym set_of_none; members = none }
 
 pub reads_more : (network : List Variable) (done : List (List ℕ)) (name : List ℕ) (set next : VarSet) → ReadsClique network done set
     → is_known_in network name ≡ true → is_member set (number_in network name) ≡ false → next ≡ with_member (number_in network name) set
@@ -109,7 +109,8 @@ reads_more network done name set next reads known new next_is next_members = rec
   known = list_all-append (is_known_in network) done (name ∷ []) ∙ rw (reads.known, known) refl;
   apart = double_push done name ∙ rw (reads.apart, ← held network done set name reads known, new) refl;
   set_is = next_is ∙ ap (with_member (number_in network name)) reads.set_is
-      ∙ sym (rw map-append (fold_push (λ (set : VarSet) (x : ℕ). with_member x set) no_variables (map (number_in network) done) (number_in network name)));
+      ∙ set_of_more (map (number_in network) done) (number_in network name)
+      ∙ ap set_of (sym (map-append (number_in network) done (name ∷ [])));
   members = λ x. next_members x ∙ ap (λ (rest : Bool). (x == number_in network name) || rest) (reads.members x)
       ∙ sym (any_push (λ (d : List ℕ). x == number_in network d) done name);
 }

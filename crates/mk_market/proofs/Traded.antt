@@ -5,13 +5,12 @@ use Rattle.std.specs.List.{position_or_len, list_all}
 use Rattle.std.proofs.Common.{refl, sym, ap, ap₂, add-zero, ◌∙◌, arith, eq-eqb, ne_eqb}
 use Rattle.std.proofs.lemmas.List.{length_push}
 use Rattle.mk_net.specs.declared.words.Pair.{Pair}
-use Rattle.mk_net.specs.declared.sets.VarSet.{VarSet}
 use Rattle.mk_net.specs.Asked.{Asked, TradeRatio, ratio_pairs}
 use Rattle.mk_net.specs.Events.{pairs_asked}
 use Rattle.mk_net.specs.Bounds.{max_values, max_market_trades}
 use Rattle.mk_net.specs.Network.{Variable, IsNetwork, sizes}
 use Rattle.mk_net.specs.Named.{nobody}
-use Rattle.mk_net.specs.Sets.{is_member}
+use Rattle.mk_net.specs.Sets.{VarSet, is_member}
 use Rattle.mk_exact.specs.History.{Entry, UserTrade, Trade, trades, deposited, withdrawn}
 use Rattle.mk_states.specs.OfNetwork.{IsQuestionOf, IsRatioOf}
 use Rattle.mk_exact.specs.Sides.{ratio_in}

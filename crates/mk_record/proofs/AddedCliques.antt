@@ -12,10 +12,9 @@ use Rattle.std.proofs.lemmas.Bool.{false_from_ne_true, le-leb}
 use Rattle.std.proofs.lemmas.List.{get_or-map}
 use Rattle.std.proofs.lemmas.List.Elements.{recursion_from_All, filter-append}
 use Rattle.std.proofs.lemmas.List.Sums.{sum_by-cons}
-use Rattle.mk_net.specs.declared.sets.VarSet.{VarSet}
 use Rattle.mk_net.specs.Bounds.{max_clique_cells}
 use Rattle.mk_net.specs.Network.{Variable, IsNetwork, sizes, choices}
-use Rattle.mk_net.specs.Sets.{is_member, no_variables}
+use Rattle.mk_net.specs.Sets.{VarSet, is_member, no_variables}
 use Rattle.mk_net.specs.Texts.{same_text}
 use Rattle.mk_net.specs.inner.TextLaws.{equal_of_same_text}
 use Rattle.mk_net.proofs.Networks.{two_values}

@@ -8,10 +8,9 @@ use Rattle.std.specs.List.{list_any, cons_option, range_with_len}
 use Rattle.std.proofs.lemmas.List.{at_drop_more, at_drop_all, length_push}
 use Rattle.std.proofs.lemmas.List.Elements.{All-from_recursion}
 use Rattle.std.proofs.lemmas.Bool.{eqb-true, eq-eqb}
-use Rattle.mk_net.specs.declared.sets.VarSet.{VarSet}
 use Rattle.mk_net.specs.Network.{Variable}
 use Rattle.mk_net.specs.Named.{variable_named}
-use Rattle.mk_net.specs.Sets.{is_member}
+use Rattle.mk_net.specs.Sets.{VarSet, is_member}
 use Rattle.mk_net.specs.Texts.{same_text}
 use Rattle.mk_states.proofs.Sums.{each_always}
 use Rattle.mk_tree.specs.Tests.{members}

@@ -9,14 +9,13 @@ use Rattle.std.proofs.lemmas.Option.{slice_get_past, slice_get-get_or}
 use Rattle.mk_net.specs.declared.words.Pair.{Pair}
 use Rattle.mk_net.specs.declared.words.PairText.{PairText}
 use Rattle.mk_net.specs.declared.words.QuestionText.{QuestionText}
-use Rattle.mk_net.specs.declared.sets.VarSet.{VarSet}
 use Rattle.mk_net.specs.Asked.{Asked}
 use Rattle.mk_net.specs.Bounds.{max_condition, million}
 use Rattle.mk_net.specs.Events.{speaks_of, AreApart, IsQuestion, pairs_asked}
 use Rattle.mk_net.specs.Firsts.{fault_if, or_else, first_of}
 use Rattle.mk_net.specs.Network.{Variable}
 use Rattle.mk_net.specs.Named.{pair_named, variable_at}
-use Rattle.mk_net.specs.Sets.{is_member}
+use Rattle.mk_net.specs.Sets.{VarSet, is_member}
 use Rattle.mk_exact.specs.History.{Entry, is_settled}
 use Rattle.mk_states.specs.OfNetwork.{IsPairOf}
 use Rattle.mk_tree.specs.Given.{GivenTree, home, holds_event}

@@ -4,11 +4,10 @@ use Rattle.std.specs.Prelude.{slice_get, All, ◌==◌}
 use Rattle.std.specs.List.{list_any}
 use Rattle.mk_net.specs.Bounds.{max_variables}
 use Rattle.mk_net.specs.Network.{Variable, IsNetwork}
-use Rattle.mk_net.specs.Sets.{is_member}
+use Rattle.mk_net.specs.Sets.{VarSet, is_member}
 use Rattle.mk_net.specs.Zeros.{HasNoZeros}
 use Rattle.mk_net.specs.Additions.{CanExtend}
 use Rattle.mk_net.specs.declared.addition.Addition.{Addition as Extension}
-use Rattle.mk_net.specs.declared.sets.VarSet.{VarSet}
 use Rattle.mk_exact.specs.History.{Entry, Addition, Add as Adds, users, revision}
 use Rattle.mk_exact.specs.Market.{with_entry}
 use Rattle.mk_tree.specs.Given.{GivenTree, max_tree_cliques}

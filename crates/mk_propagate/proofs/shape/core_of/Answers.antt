@@ -1,8 +1,7 @@
 use Rattle.std.proofs.Common.{◌≡◌, ℕ, ◌<◌, ◌&&◌, ◌||◌, List, length, take, slice_index_or, get_or, sym, ap, subst, ◌∙◌, arith}
 use Rattle.std.proofs.Math.Seq.{take-length}
 use Rattle.std.specs.List.{list_any}
-use Rattle.mk_net.specs.declared.sets.VarSet.{VarSet}
-use Rattle.mk_net.specs.Sets.{is_member}
+use Rattle.mk_net.specs.Sets.{VarSet, is_member}
 use Rattle.mk_tree.specs.Given.{GivenTree, holds}
 use Rattle.mk_propagate.specs.Shapes.{neighbours}
 use Rattle.mk_propagate.proofs.Cores.{around_more, neighbour_is}
