@@ -49,7 +49,7 @@ SECTIONS = [
     ("The market file and its tree", [
         "mk_file/src/fault.rt", "mk_file/specs/File.antt", "mk_file/specs/Walk.antt", "mk_net/specs/Drafts.antt", "mk_file/specs/Counts.antt",
         "mk_net/src/fault.rt", "mk_net/specs/Checked.antt", "mk_file/specs/Cliques.antt", "mk_tree/src/fault.rt", "mk_tree/specs/Given.antt",
-        "mk_tree/specs/Tests.antt", "mk_net/src/sets.rt", "mk_net/specs/Sets.antt"]),
+        "mk_tree/specs/Tests.antt", "mk_net/specs/Sets.antt"]),
     ("The sample", [
         "daggre/specs/Sampled.antt", "mk_session/src/counts.rt", "mk_session/specs/Tally.antt", "mk_make/specs/Sample.antt", "mk_make/specs/Lines.antt"]),
     ("The outside", [
@@ -141,8 +141,6 @@ WORDS = {
     "sum_by": "the sum of what a function gives of the items",
     "count_by": "how many items pass a test",
     "AllPairs": "each two items of a list, the earlier first, meet a statement",
-    "bit_at": "`bit_at n i` is the bit of `n` at the place `i`, 0 or 1",
-    "bit_or": "the bits that either number has",
     "◌≤◌": "at most",
     "◌<◌": "less",
     "◌≡◌": "is the same as",
