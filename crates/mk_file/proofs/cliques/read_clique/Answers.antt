@@ -1,7 +1,10 @@
 use Rattle.std.proofs.Common.{take, map, string_bytes, sym, ap, ◌∙◌, arith}
 use Rattle.std.specs.Prelude.{is_none}
-use Rattle.mk_file.proofs.Cliqued.{clique_more, clique_unknown, clique_double, clique_within}
+use Rattle.mk_file.proofs.Cliqued.{reads_none, clique_more, clique_unknown, clique_double, clique_within}
 use Rattle.mk_file.proofs.cliques.read_clique.Goals as goal
+
+pub names-init : goal.names-init
+names-init c = reads_none c.args.net.now c.empty-set.result c.empty-set.ensures.set c.empty-set.ensures.members
 
 pub returns-in_err-number-clause-none : goal.returns-in_err-number-clause-none
 returns-in_err-number-clause-none c =
