@@ -1,3 +1,3 @@
 -- What of a replay the crates above cite.
 pub use Rattle.mk_replay.proofs.HasHome.{no_home}
-pub use Rattle.mk_replay.proofs.Replayed.{changes_more}
+pub use Rattle.mk_replay.proofs.Replayed.{around, all_back}

@@ -7,7 +7,6 @@ ghost use Rattle.mk_exact.specs.Weight.{IsSmall};
 ghost use Rattle.mk_tree.specs.Checked.{IsTreeOf};
 ghost use Rattle.mk_engine.specs.Meaning.{ArePairsOf};
 ghost use Rattle.mk_beliefs.specs.Meanings.{weights_of};
-ghost use Rattle.mk_record.specs.Entries.{changes};
 ghost use Rattle.mk_replay.specs.Placed.{IsPlaced};
 ghost use Rattle.mk_best.specs.BestStates.{IsBestFound};
 ghost use Rattle.mk_best.specs.inner.Engines.{learned};
@@ -22,7 +21,7 @@ use crate::search::best_pairs;
 use mk_enclose::Enclosure;
 use mk_engine::Engine;
 use mk_net::{Event, Network, NoMemory, Pair};
-use mk_record::Entry;
+use mk_record::Journal;
 use mk_semiring::{Held, MaxProd, Semiring, SumProd};
 use mk_tree::Tree;
 use mk_tree_engine::TreeEngine;
@@ -37,13 +36,13 @@ pub fn best(
     alloc: Global,
     net: &Network,
     tree: &Tree,
-    history: &[Entry],
+    history: &Journal,
     given: &[Pair],
 ) -> Result<Best, NoMemory>
     requires tree { IsTreeOf net.now tree.now }
-    requires history { IsPlaced net.now tree.now (changes history.now) }
+    requires history { IsPlaced net.now tree.now history.now.history }
     requires given { ArePairsOf net.now given.now }
-    ensures { IfOk result (IsBestFound net.now (changes history.now) given.now) }
+    ensures { IfOk result (IsBestFound net.now history.now.history given.now) }
 {
     best_by::<TreeEngine<SumProd>, TreeEngine<MaxProd>>(alloc, net, tree, history, given)
 }
@@ -53,15 +52,15 @@ pub fn best_by<S: Engine<SumProd>, M: Engine<MaxProd>>(
     alloc: Global,
     net: &Network,
     tree: &Tree,
-    history: &[Entry],
+    history: &Journal,
     given: &[Pair],
 ) -> Result<Best, NoMemory>
     requires suits { S.suits net.now tree.now }
     requires maxima_suit { M.suits net.now tree.now }
     requires tree { IsTreeOf net.now tree.now }
-    requires history { IsPlaced net.now tree.now (changes history.now) }
+    requires history { IsPlaced net.now tree.now history.now.history }
     requires given { ArePairsOf net.now given.now }
-    ensures { IfOk result (IsBestFound net.now (changes history.now) given.now) }
+    ensures { IfOk result (IsBestFound net.now history.now.history given.now) }
 {
     let mut sums = engine_with::<SumProd, S>(alloc, net, tree, history, given)?;
     let mut maxima = engine_with::<MaxProd, M>(alloc, net, tree, history, given)?;
@@ -74,15 +73,15 @@ fn engine_with<R: Semiring, E: Engine<R>>(
     alloc: Global,
     net: &Network,
     tree: &Tree,
-    history: &[Entry],
+    history: &Journal,
     given: &[Pair],
 ) -> Result<E, NoMemory>
     requires suits { E.suits net.now tree.now }
     requires tree { IsTreeOf net.now tree.now }
-    requires history { IsPlaced net.now tree.now (changes history.now) }
+    requires history { IsPlaced net.now tree.now history.now.history }
     requires given { ArePairsOf net.now given.now }
     ensures stands { IfOk result (λ engine. E.stands_for engine
-        (weights_of net.now tree.now (learned (changes history.now) given.now))) }
+        (weights_of net.now tree.now (learned history.now.history given.now))) }
     ensures network { IfOk result (λ _. IsNetwork net.now) }
 {
     let mut engine = engine_after::<R, E>(alloc, net, tree, history)?;

@@ -7,7 +7,6 @@ ghost use Rattle.mk_exact.specs.Prices.{CoversPrice};
 ghost use Rattle.mk_exact.specs.Weight.{IsSmall};
 ghost use Rattle.mk_tree.specs.Checked.{IsTreeOf};
 ghost use Rattle.mk_engine.specs.Meaning.{ArePairsOf};
-ghost use Rattle.mk_record.specs.Entries.{changes};
 ghost use Rattle.mk_replay.specs.Placed.{IsPlaced};
 ghost use Rattle.mk_best.specs.Chances.{IsChance};
 ghost use Rattle.mk_best.specs.inner.Engines.{CanAsk, IsLeftFor, ArePartAndWhole, HasPartAndWhole};
@@ -20,7 +19,7 @@ use crate::sure::are_sure;
 use mk_enclose::Enclosure;
 use mk_engine::Engine;
 use mk_net::{Event, Network, NoMemory, Pair};
-use mk_record::Entry;
+use mk_record::Journal;
 use mk_semiring::{Held, SumProd};
 use mk_tree::Tree;
 use mk_tree_engine::TreeEngine;
@@ -41,15 +40,15 @@ pub fn chance(
     alloc: Global,
     net: &Network,
     tree: &Tree,
-    history: &[Entry],
+    history: &Journal,
     want: &[Pair],
     given: &[Pair],
 ) -> Result<Chance, NoMemory>
     requires tree { IsTreeOf net.now tree.now }
-    requires history { IsPlaced net.now tree.now (changes history.now) }
+    requires history { IsPlaced net.now tree.now history.now.history }
     requires want { ArePairsOf net.now want.now }
     requires given { ArePairsOf net.now given.now }
-    ensures { IfOk result (IsChance net.now (changes history.now) want.now given.now) }
+    ensures { IfOk result (IsChance net.now history.now.history want.now given.now) }
 {
     chance_by::<TreeEngine<SumProd>>(alloc, net, tree, history, want, given)
 }
@@ -59,16 +58,16 @@ pub fn chance_by<E: Engine<SumProd>>(
     alloc: Global,
     net: &Network,
     tree: &Tree,
-    history: &[Entry],
+    history: &Journal,
     want: &[Pair],
     given: &[Pair],
 ) -> Result<Chance, NoMemory>
     requires suits { E.suits net.now tree.now }
     requires tree { IsTreeOf net.now tree.now }
-    requires history { IsPlaced net.now tree.now (changes history.now) }
+    requires history { IsPlaced net.now tree.now history.now.history }
     requires want { ArePairsOf net.now want.now }
     requires given { ArePairsOf net.now given.now }
-    ensures { IfOk result (IsChance net.now (changes history.now) want.now given.now) }
+    ensures { IfOk result (IsChance net.now history.now.history want.now given.now) }
 {
     let mut engine = engine_after::<SumProd, E>(alloc, net, tree, history)?;
     know_all::<SumProd, E>(&mut engine, tree, given);

@@ -3,12 +3,11 @@ ghost use Rattle.std.specs.Prelude.{IfOk};
 ghost use Rattle.mk_net.specs.Network.{IsNetwork};
 ghost use Rattle.mk_tree.specs.Checked.{IsTreeOf};
 ghost use Rattle.mk_beliefs.specs.Meanings.{weights_of};
-ghost use Rattle.mk_record.specs.Entries.{changes};
 ghost use Rattle.mk_replay.specs.Placed.{IsPlaced};
 
 use mk_engine::Engine;
 use mk_net::{Network, NoMemory};
-use mk_record::Entry;
+use mk_record::Journal;
 use mk_semiring::Semiring;
 use mk_tree::Tree;
 use std::alloc::Global;
@@ -19,13 +18,13 @@ pub fn engine_after<R: Semiring, E: Engine<R>>(
     alloc: Global,
     net: &Network,
     tree: &Tree,
-    history: &[Entry],
+    history: &Journal,
 ) -> Result<E, NoMemory>
     requires suits { E.suits net.now tree.now }
     requires tree { IsTreeOf net.now tree.now }
-    requires history { IsPlaced net.now tree.now (changes history.now) }
+    requires history { IsPlaced net.now tree.now history.now.history }
     ensures stands { IfOk result (λ engine. E.stands_for engine
-        (weights_of net.now tree.now (changes history.now))) }
+        (weights_of net.now tree.now history.now.history)) }
     ensures network { IfOk result (λ _. IsNetwork net.now) }
 {
     let plan = E::plan(alloc, net, tree)?;

@@ -1,6 +1,6 @@
 //! Chances by numbers worked out by hand, and by published ones.
 
-ghost use Rattle.std.specs.Prelude.{List, [], IfOk};
+ghost use Rattle.std.specs.Prelude.{◌≡◌, List, [], IfOk};
 ghost use Rattle.mk_net.specs.Network.{IsNetwork};
 ghost use Rattle.mk_states.specs.OfNetwork.{IsPairOf};
 ghost use Rattle.mk_tree.specs.Checked.{IsTreeOf};
@@ -8,7 +8,9 @@ ghost use Rattle.mk_engine.specs.Meaning.{ArePairsOf};
 
 use mk_best::{Chance, chance};
 use mk_file::{MarketFile, read_market};
-use mk_net::{Network, Pair};
+use mk_history::Limits;
+use mk_net::{Network, NoMemory, Pair};
+use mk_record::Journal;
 use std::alloc::Global;
 use std::process::Abort;
 use std::test::Fail;
@@ -98,6 +100,18 @@ pub(crate) fn expect_own(rt: &impl Abort, net: &Network, pairs: &[Pair])
     }
 }
 
+/// The journal of a market before any entry.
+pub(crate) fn no_entries(alloc: Global) -> Result<Journal, NoMemory>
+    ensures { IfOk result (λ journal. journal.history ≡ []) }
+{
+    let limits = Limits {
+        trades: 1,
+        users: 1,
+        transfers: 1,
+    };
+    Journal::start(alloc, limits)
+}
+
 /// Stops unless the chance before any entry has these bounds, or is impossible.
 fn expect(
     rt: &impl Abort,
@@ -111,7 +125,8 @@ fn expect(
 {
     expect_own(rt, &file.net, want);
     expect_own(rt, &file.net, given);
-    let found = match chance(alloc, &file.net, &file.tree, &[], want, given)? {
+    let journal = no_entries(alloc)?;
+    let found = match chance(alloc, &file.net, &file.tree, &journal, want, given)? {
         Chance::Price { low, high } => Some((low, high)),
         Chance::Impossible => None,
     };

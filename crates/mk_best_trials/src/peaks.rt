@@ -2,7 +2,7 @@
 
 ghost use Rattle.mk_tree.specs.Checked.{IsTreeOf};
 
-use crate::chances::{ALARM, at, expect_own, read};
+use crate::chances::{ALARM, at, expect_own, no_entries, read};
 use mk_best::{Best, best};
 use mk_file::MarketFile;
 use mk_net::Pair;
@@ -52,7 +52,8 @@ fn expect(
     requires { IsTreeOf file.now.net file.now.tree }
 {
     expect_own(rt, &file.net, given);
-    match best(alloc, &file.net, &file.tree, &[], given)? {
+    let journal = no_entries(alloc)?;
+    match best(alloc, &file.net, &file.tree, &journal, given)? {
         Best::Found {
             low,
             high,

@@ -6,8 +6,6 @@ use Rattle.std.specs.declared.alloc.Global.{Global}
 use Rattle.mk_exact.specs.History.{Entry, revision}
 use Rattle.mk_exact.specs.Market.{Market}
 use Rattle.mk_restore.proofs.Counted.{each_counts}
-use Rattle.mk_record.specs.declared.entry.Entry.{Entry as Record}
-use Rattle.mk_record.specs.Entries.{changes, change_of}
 use Rattle.mk_journal.specs.Store.{StandsFor, IsBroken}
 use Rattle.mk_journal.specs.Opening.{contents, IfGate, IfMalformed}
 use Rattle.mk_journal.specs.declared.read.End.{End}
@@ -62,7 +60,6 @@ as_many market new records taken =
     )
 
 -- a journal has as many entries as there are changes
-pub as_told : (entries : List Record) (H : List Entry) → changes entries ≡ H
-    → length entries ≡ length H
-as_told entries H same =
-    sym (length-map entries change_of) ∙ ap (λ (H : List Entry). length H) same
+pub as_told : (count : ℕ) (told H : List Entry) → count ≡ length told → told ≡ H
+    → count ≡ length H
+as_told count told H is same = is ∙ ap (λ (H : List Entry). length H) same

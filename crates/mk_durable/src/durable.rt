@@ -95,9 +95,9 @@ fn answer_and_keep<P: Engine<SumProd>, A: Engine<MinProd>, K: Disk>(
         (K.left_since disk.new n) (IsFront bytes
         (records ++ records_made market.old command.now reply) (length records))) }
 {
-    let before = market.history().len();
+    let before = market.history().length();
     let reply = market.apply(alloc, &command.lend());
-    if market.history().len() == before {
+    if market.history().length() == before {
         return Ok(reply);
     }
     keep_change(command, &reply, store, disk)?;

@@ -83,7 +83,7 @@ pub fn resume<P: Engine<SumProd>, A: Engine<MinProd>, K: Disk>(
 {
     let found = open_store(alloc, disk, header)?;
     restore_all(alloc, market, &found.records)?;
-    let count = market.history().len() as u64;
+    let count = market.history().revision();
     match found.end {
         End::Gate(gate) => Ok(Resumed {
             store: Store::new(gate, group),

@@ -15,7 +15,8 @@ use Rattle.mk_states.specs.Ratios.{unit, ratio_at, units_of}
 use Rattle.mk_states.specs.States.{numbers_below, plus_over, IsState}
 use Rattle.mk_exact.specs.Weight.{weight, total, is_possible, possible_states}
 use Rattle.mk_states.proofs.Sums.{sums_are_plus, plus_over-filter, plus_over_by_key, sum_by_is}
-use Rattle.mk_states.proofs.Sums.{sum_by-plus, sum_by-times, list_all-append, each_weaker, kept_each}
+use Rattle.mk_states.proofs.Sums.{sum_by-plus, sum_by-times, list_all-append, each_weaker}
+use Rattle.mk_states.proofs.Sums.{kept_each}
 use Rattle.mk_states.proofs.Listed.{all_are, value_below}
 use Rattle.mk_exact.proofs.Totals.{total_is}
 use Rattle.mk_expect.specs.inner.Parts.{unit_bits, event_at, weight_at, values_gained, values_owed}

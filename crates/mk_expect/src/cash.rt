@@ -4,7 +4,6 @@ ghost use Rattle.mk_net.specs.Bounds.{max_points_per_bit};
 ghost use Rattle.mk_net.specs.Network.{Variable, IsNetwork};
 ghost use Rattle.mk_tree.specs.Checked.{IsTreeOf};
 ghost use Rattle.mk_beliefs.specs.Meanings.{weights_of};
-ghost use Rattle.mk_record.specs.Entries.{changes};
 ghost use Rattle.mk_best.specs.Chances.{IsPlaced};
 ghost use Rattle.mk_expect.specs.Expectation.{CoversExpectation, HasFewBits};
 ghost use Rattle.mk_expect.specs.inner.Added.{AddsAll};
@@ -17,7 +16,7 @@ use crate::tally::Tally;
 use mk_best::engine_after;
 use mk_engine::Engine;
 use mk_net::{Event, Network, NoMemory};
-use mk_record::Entry;
+use mk_record::Journal;
 use mk_semiring::{Held, SumProd};
 use mk_tree::Tree;
 use mk_tree_engine::TreeEngine;
@@ -33,15 +32,15 @@ pub fn expect(
     alloc: Global,
     net: &Network,
     tree: &Tree,
-    history: &[Entry],
+    history: &Journal,
     points_per_bit: u32,
     user: u32,
 ) -> Result<(i64, i64), NoMemory>
     requires tree { IsTreeOf net.now tree.now }
-    requires history { IsPlaced net.now tree.now (changes history.now) }
+    requires history { IsPlaced net.now tree.now history.now.history }
     requires few_points { points_per_bit ≤ max_points_per_bit }
-    requires few_bits { HasFewBits (changes history.now) user }
-    ensures { IfOk result (λ points. CoversExpectation net.now (changes history.now)
+    requires few_bits { HasFewBits history.now.history user }
+    ensures { IfOk result (λ points. CoversExpectation net.now history.now.history
         points_per_bit user points.0 points.1) }
 {
     expect_by::<TreeEngine<SumProd>>(alloc, net, tree, history, points_per_bit, user)
@@ -52,16 +51,16 @@ pub fn expect_by<E: Engine<SumProd>>(
     alloc: Global,
     net: &Network,
     tree: &Tree,
-    history: &[Entry],
+    history: &Journal,
     points_per_bit: u32,
     user: u32,
 ) -> Result<(i64, i64), NoMemory>
     requires suits { E.suits net.now tree.now }
     requires tree { IsTreeOf net.now tree.now }
-    requires history { IsPlaced net.now tree.now (changes history.now) }
+    requires history { IsPlaced net.now tree.now history.now.history }
     requires few_points { points_per_bit ≤ max_points_per_bit }
-    requires few_bits { HasFewBits (changes history.now) user }
-    ensures { IfOk result (λ points. CoversExpectation net.now (changes history.now)
+    requires few_bits { HasFewBits history.now.history user }
+    ensures { IfOk result (λ points. CoversExpectation net.now history.now.history
         points_per_bit user points.0 points.1) }
 {
     let mut engine = engine_after::<SumProd, E>(alloc, net, tree, history)?;
@@ -73,13 +72,13 @@ pub fn expect_by<E: Engine<SumProd>>(
 fn history_tally<E: Engine<SumProd>>(
     engine: &mut E,
     tree: &Tree,
-    history: &[Entry],
+    history: &Journal,
     user: u32,
 ) -> Tally
-    requires { CanExpect E.stands_for engine.old tree.now (changes history.now) user }
+    requires { CanExpect E.stands_for engine.old tree.now history.now.history user }
     ensures adds { (network : List Variable) → IsNetwork network
-        → E.stands_for engine.old (weights_of network tree.now (changes history.now))
-        → AddsAll network (changes history.now) user result }
+        → E.stands_for engine.old (weights_of network tree.now history.now.history)
+        → AddsAll network history.now.history user result }
     ensures small { IsWithin result (2 ^ 86) (2 ^ 86) }
 {
     let Held::Present(whole) = engine.belief(ROOT, &Event::empty()) else {

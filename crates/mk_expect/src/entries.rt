@@ -3,7 +3,7 @@ ghost use Rattle.std.specs.Prelude.{◌≡◌, ℕ, ◌+◌, ◌*◌, ◌^◌, L
 ghost use Rattle.mk_net.specs.Network.{Variable};
 ghost use Rattle.mk_exact.specs.History as exact;
 ghost use Rattle.mk_engine.specs.Meaning.{Meaning};
-ghost use Rattle.mk_record.specs.Entries.{change_of, changes};
+ghost use Rattle.mk_history.specs.Entries.{change_of};
 ghost use Rattle.mk_expect.specs.Expectation.{AreBits};
 ghost use Rattle.mk_expect.specs.inner.Added.{AddsEntry, AddsEntries};
 ghost use Rattle.mk_expect.specs.inner.Shares.{HasWhole, CanAdd, CanAddAll};
@@ -13,7 +13,8 @@ use crate::tally::{Tally, no_tally, sum_of};
 use crate::trades::trade_tally;
 use mk_enclose::Enclosure;
 use mk_engine::Engine;
-use mk_record::Entry;
+use mk_history::Entry;
+use mk_record::Journal;
 use mk_semiring::SumProd;
 use mk_tree::Tree;
 
@@ -25,19 +26,20 @@ const PARTS: u128 = 1 << 54;
 pub(crate) fn entries_tally<E: Engine<SumProd>>(
     engine: &mut E,
     tree: &Tree,
-    history: &[Entry],
+    history: &Journal,
     user: u32,
     whole: &Enclosure,
 ) -> Tally
-    requires { CanAddAll E.stands_for engine.old tree.now (changes history.now) user whole.now }
+    requires { CanAddAll E.stands_for engine.old tree.now history.now.history user whole.now }
     ensures { (network : List Variable)
-        → HasWhole E.stands_for engine.old network tree.now (changes history.now) whole.now
+        → HasWhole E.stands_for engine.old network tree.now history.now.history whole.now
         → (bits : ℕ → ℕ) → AreBits bits
-        → AddsEntries network (changes history.now) bits user (changes history.now) result }
+        → AddsEntries network history.now.history bits user history.now.history result }
 {
     let mut tally = no_tally();
-    for entry in history {
-        tally = sum_of(&tally, &entry_tally(engine, tree, entry, user, whole));
+    for number in 0..history.length() {
+        let entry = history.entry(number);
+        tally = sum_of(&tally, &entry_tally(engine, tree, &entry, user, whole));
     }
     tally
 }
@@ -46,7 +48,7 @@ pub(crate) fn entries_tally<E: Engine<SumProd>>(
 fn entry_tally<E: Engine<SumProd>>(
     engine: &mut E,
     tree: &Tree,
-    entry: &Entry,
+    entry: &Entry<'_>,
     user: u32,
     whole: &Enclosure,
 ) -> Tally

@@ -4,11 +4,15 @@ use Rattle.std.specs.Prelude.{false, None, slice_get, slice_set, ◌⊎◌}
 use Rattle.std.specs.List.{AllByRecursion}
 use Rattle.std.proofs.Common.{inl, inr, refl, sym, ap, ◌∙◌, subst, arith, eq-eqb, ne_eqb}
 use Rattle.std.proofs.lemmas.Bool.{cases_eq}
-use Rattle.std.proofs.lemmas.List.{length_push, length-set, get_or-set_same, get_or-set_other, get_or_append_left, get_or_push}
-use Rattle.mk_exact.specs.History.{Entry, Join, Deposit, Withdraw, Trade, Resolve, Settle, Add, users, deposited, withdrawn, bits_in, bits_out}
-use Rattle.mk_exact.specs.History.{join_in, is_settlement, is_settled, payments_in, or_nothing, payment_to}
+use Rattle.std.proofs.lemmas.List.{length_push, length-set, get_or-set_same, get_or-set_other}
+use Rattle.std.proofs.lemmas.List.{get_or_append_left, get_or_push}
+use Rattle.mk_exact.specs.History.{Entry, Join, Deposit, Withdraw, Trade, Resolve, Settle, Add}
+use Rattle.mk_exact.specs.History.{users, deposited, withdrawn, bits_in, bits_out}
+use Rattle.mk_exact.specs.History.{join_in, is_settlement, is_settled, payments_in, or_nothing}
+use Rattle.mk_exact.specs.History.{payment_to}
 use Rattle.mk_exact.specs.Market.{Market}
-use Rattle.mk_exact.proofs.After.{deposited_more, withdrawn_more, users_kept, users_more, payments_kept, payments_before}
+use Rattle.mk_exact.proofs.After.{deposited_more, withdrawn_more, users_kept, users_more}
+use Rattle.mk_exact.proofs.After.{payments_kept, payments_before}
 use Rattle.mk_rules.specs.Bounded.{FitsTransfer}
 use Rattle.mk_cash.specs.declared.ledger.Account.{Account}
 use Rattle.mk_cash.specs.Accounts.{account_of, empty_account}

@@ -1,5 +1,6 @@
 -- Prices, and what users are worth at least.
-use Rattle.std.specs.Prelude.{◌≡◌, ℕ, ◌≤◌, List, length, Bool, true, false, Option, Some, None, IfSome, IsNone, IsSomeAnd, ◌↔◌}
+use Rattle.std.specs.Prelude.{◌≡◌, ℕ, ◌≤◌, List, length, Bool, true, false, Option, Some, None}
+use Rattle.std.specs.Prelude.{IfSome, IsNone, IsSomeAnd, ◌↔◌}
 use Rattle.std.proofs.Common.{refl, sym, ap, subst}
 use Rattle.mk_net.specs.Firsts.{or_else, first_of}
 use Rattle.mk_net.specs.Network.{Variable}

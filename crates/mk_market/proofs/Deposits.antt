@@ -1,11 +1,13 @@
 -- Bits are paid in.
-use Rattle.std.specs.Prelude.{◌≡◌, ℕ, ◌+◌, ◌*◌, ◌<◌, ◌≤◌, List, [], ◌∷◌, ◌++◌, map, length, Option, Some, None, option_map, slice_get, slice_set}
+use Rattle.std.specs.Prelude.{◌≡◌, ℕ, ◌+◌, ◌*◌, ◌<◌, ◌≤◌, List, [], ◌∷◌, ◌++◌, map, length, Option}
+use Rattle.std.specs.Prelude.{Some, None, option_map, slice_get, slice_set}
 use Rattle.std.proofs.Common.{refl, sym, ap, ap₂, ◌∙◌, subst, arith}
 use Rattle.std.proofs.Math.Nat.{mul-le-mul}
 use Rattle.std.proofs.lemmas.List.{length_push}
 use Rattle.mk_net.specs.Network.{Variable}
 use Rattle.mk_net.specs.Bounds.{number_limit}
-use Rattle.mk_exact.specs.History.{Entry, Deposit as Deposits, users, deposited, revision, is_settlement}
+use Rattle.mk_exact.specs.History.{Entry, Deposit as Deposits, users, deposited, revision}
+use Rattle.mk_exact.specs.History.{is_settlement}
 use Rattle.mk_tree.specs.Given.{GivenTree}
 use Rattle.mk_file.specs.declared.market_file.MarketFile.{MarketFile}
 use Rattle.mk_file.specs.MarketOf.{market_of}
@@ -30,7 +32,8 @@ use Rattle.mk_record.specs.Refused.{IsUser, HasRoomForTransfer}
 use Rattle.mk_market.specs.inner.Keeping.{quoted, standing_of, IsKept, TakesAsMuch}
 use Rattle.mk_record.proofs.Appends.{not_there, not_found}
 use Rattle.mk_market.proofs.Growing.{kept_grown}
-use Rattle.mk_market.proofs.Owned.{names_same, quotes_same, held_one, deposit_holding, deposit_others, few_moved}
+use Rattle.mk_market.proofs.Owned.{names_same, quotes_same, held_one, deposit_holding}
+use Rattle.mk_market.proofs.Owned.{deposit_others, few_moved}
 use Rattle.mk_market.proofs.Accounted.{paid_set, accounts_deposited}
 use Rattle.mk_market.proofs.Replies.{answer_allowed, unsettled}
 use Rattle.mk_replay.specs.Tills.{TillOf}

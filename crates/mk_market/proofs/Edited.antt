@@ -1,5 +1,8 @@
 -- A user is quoted limits, or an edit is judged by them.
-use Rattle.std.specs.Prelude.{◌≡◌, ℕ, ◌+◌, ◌==◌, List, [], ◌∷◌, ◌++◌, Bool, true, false, if◌then◌else◌, length, map, Option, Some, None, option_map, option_and_then, option_to_list, MatchOption, IsSomeAnd, Result, Ok, Err, IsErrAnd, ⊤, slice_get}
+use Rattle.std.specs.Prelude.{◌≡◌, ℕ, ◌+◌, ◌==◌, List, [], ◌∷◌, ◌++◌, Bool, true, false}
+use Rattle.std.specs.Prelude.{if◌then◌else◌, length, map, Option, Some, None, option_map}
+use Rattle.std.specs.Prelude.{option_and_then, option_to_list, MatchOption, IsSomeAnd, Result, Ok}
+use Rattle.std.specs.Prelude.{Err, IsErrAnd, ⊤, slice_get}
 use Rattle.std.proofs.Common.{refl, sym, ap, ap₂, ◌∙◌, subst, inl, inr, arith}
 use Rattle.std.proofs.lemmas.Bool.{eqb-true}
 use Rattle.std.proofs.lemmas.List.{length_push}
@@ -28,7 +31,8 @@ use Rattle.mk_reply.specs.declared.refusal.Refusal.{Refusal}
 use Rattle.mk_reply.specs.declared.refusal.Refusal.TheVariants.{Beyond}
 use Rattle.mk_reply.specs.declared.reply.Reply.{Reply}
 use Rattle.mk_reply.specs.declared.reply.Reply.TheVariants.{Limits as Limited, Traded, Refused}
-use Rattle.mk_rules.specs.Answers.{IsLimits, IsTrade, IsBeyond, IsJudged, IsJudgedAfresh, with_limits, with_quote}
+use Rattle.mk_rules.specs.Answers.{IsLimits, IsTrade, IsBeyond, IsJudged, IsJudgedAfresh}
+use Rattle.mk_rules.specs.Answers.{with_limits, with_quote}
 use Rattle.mk_rules.specs.Refusals.{question_named, user_number, first_refusal}
 use Rattle.mk_rules.specs.Quotes as rules
 use Rattle.mk_rules.specs.Transcript.{OfCommand, IsAllowedFor, after}
@@ -38,7 +42,8 @@ use Rattle.mk_answers.specs.Open.{IsOpen}
 use Rattle.mk_answers.specs.Results.{AreBothLeft}
 use Rattle.mk_answers.proofs.Weaker.{right_by_bounds, fair_by_bounds}
 use Rattle.mk_record.specs.declared.last_quote.LastQuote.{LastQuote}
-use Rattle.mk_record.specs.declared.last_quote.LastQuote.TheVariants.{Limits as LastLimits, Bounds as LastBounds}
+use Rattle.mk_record.specs.declared.last_quote.LastQuote.TheVariants.{Limits as LastLimits}
+use Rattle.mk_record.specs.declared.last_quote.LastQuote.TheVariants.{Bounds as LastBounds}
 use Rattle.mk_record.specs.declared.users.Member.{Member}
 use Rattle.mk_record.specs.Journals.{JournalOf}
 use Rattle.mk_record.specs.Members.{quotes_of}

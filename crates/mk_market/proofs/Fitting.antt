@@ -12,8 +12,8 @@ use Rattle.mk_reply.specs.declared.payments.Payment.{Payment}
 use Rattle.mk_reply.specs.Replies.{IsPayment as IsReadPayment}
 use Rattle.mk_rules.specs.Answers.{ends_of}
 use Rattle.mk_rules.specs.Bounded.{FitPayment}
-use Rattle.mk_record.specs.declared.entry.Payout.{Payout}
-use Rattle.mk_record.specs.Entries.{ends}
+use Rattle.mk_history.specs.declared.entry.Payout.{Payout}
+use Rattle.mk_history.specs.Entries.{ends}
 
 pub lows_fit : (rows : List Payout) → AllByRecursion FitPayment (map ends rows) → (k : ℕ) (d : Payout) → k < length rows
     → (slice_index_or rows k d).low < number_limit

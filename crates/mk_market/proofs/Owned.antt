@@ -1,5 +1,7 @@
 -- What the users of a market hold once the assets of one changed, or a user joined.
-use Rattle.std.specs.Prelude.{◌≡◌, ℕ, ◌+◌, ◌*◌, ◌≤◌, zero, suc, List, [], ◌∷◌, ◌++◌, length, Bool, true, false, ◌==◌, cond, Option, Some, None, option_map, unwrap_or, slice_get, slice_set, ◌⊎◌}
+use Rattle.std.specs.Prelude.{◌≡◌, ℕ, ◌+◌, ◌*◌, ◌≤◌, zero, suc, List, [], ◌∷◌, ◌++◌, length, Bool}
+use Rattle.std.specs.Prelude.{true, false, ◌==◌, cond, Option, Some, None, option_map, unwrap_or}
+use Rattle.std.specs.Prelude.{slice_get, slice_set, ◌⊎◌}
 use Rattle.std.specs.List.{AllByRecursion, count_by}
 use Rattle.std.proofs.Common.{inl, inr, refl, sym, ap, ◌∙◌, subst, arith, eq-eqb, ne_eqb}
 use Rattle.std.proofs.lemmas.List.{length-map, map-set, map-append}
@@ -7,7 +9,9 @@ use Rattle.std.proofs.lemmas.List.Sums.{sum_by-cons}
 use Rattle.std.proofs.lemmas.Option.{slice_get-map, get_or_from_slice_get}
 use Rattle.std.proofs.Math.Seq.{map-set_same}
 use Rattle.mk_net.specs.Network.{Variable}
-use Rattle.mk_exact.specs.History.{Entry, Join, Deposit, Withdraw, Trade, Resolve, Settle, Add, users, resolutions, deposited, withdrawn, bits_in, bits_out, is_transfer}
+use Rattle.mk_exact.specs.History.{Entry, Join, Deposit, Withdraw, Trade, Resolve, Settle, Add}
+use Rattle.mk_exact.specs.History.{users, resolutions, deposited, withdrawn, bits_in, bits_out}
+use Rattle.mk_exact.specs.History.{is_transfer}
 use Rattle.mk_exact.specs.Proper.{IsProper}
 use Rattle.mk_exact.proofs.After.{deposited_more, withdrawn_more}
 use Rattle.mk_tree.specs.Given.{GivenTree}
@@ -22,34 +26,12 @@ use Rattle.mk_rules.proofs.Bounds.{count_first}
 use Rattle.mk_answers.specs.Open.{holding_of}
 use Rattle.mk_record.specs.declared.users.Member.{Member}
 use Rattle.mk_record.specs.Members.{new_member, names_of, assets_of, quotes_of, with_assets}
+use Rattle.mk_replay.proofs.Each.{set_cases, push_cases}
 
 -- a value that was mapped
 mapped : {X Y : Type 0} (f : X → Y) (o : Option X) (y : Y) → option_map f o ≡ Some y → (x : X) × (o ≡ Some x) × (f x ≡ y)
 mapped f None y e = cc
 mapped f (Some x) y e = (x, refl, cc)
-
--- what stands at a place after a write
-set_cases : {X : Type 0} (xs : List X) (i k : ℕ) (y x : X) → slice_get (slice_set xs i y) k ≡ Some x → ((k ≡ i) × (y ≡ x)) ⊎ ((k ≡ i → ⊥) × (slice_get xs k ≡ Some x))
-set_cases [] i k y x e = cc
-set_cases (a ∷ xs) zero zero y x e = inl (refl, cc)
-set_cases (a ∷ xs) zero (suc k) y x e = inr (λ same. absurd (omega (arith, same)), e)
-set_cases (a ∷ xs) (suc i) zero y x e = inr (λ same. absurd (omega (arith, same)), e)
-set_cases (a ∷ xs) (suc i) (suc k) y x e = later (set_cases xs i k y x e)
-  where
-    later : ((k ≡ i) × (y ≡ x)) ⊎ ((k ≡ i → ⊥) × (slice_get xs k ≡ Some x)) → ((suc k ≡ suc i) × (y ≡ x)) ⊎ ((suc k ≡ suc i → ⊥) × (slice_get xs k ≡ Some x))
-    later (inl h) = inl (ap suc (h.0), h.1)
-    later (inr h) = inr (λ same. h.0 (omega (arith, same)), h.1)
-
--- and after a push
-pub push_cases : {X : Type 0} (xs : List X) (k : ℕ) (y x : X) → slice_get (xs ++ y ∷ []) k ≡ Some x → ((k ≡ length xs) × (y ≡ x)) ⊎ (slice_get xs k ≡ Some x)
-push_cases [] zero y x e = inl (refl, cc)
-push_cases [] (suc k) y x e = cc
-push_cases (a ∷ xs) zero y x e = inr e
-push_cases (a ∷ xs) (suc k) y x e = later (push_cases xs k y x e)
-  where
-    later : ((k ≡ length xs) × (y ≡ x)) ⊎ (slice_get xs k ≡ Some x) → ((suc k ≡ length (a ∷ xs)) × (y ≡ x)) ⊎ (slice_get xs k ≡ Some x)
-    later (inl h) = inl (omega (arith, h.0), h.1)
-    later (inr h) = inr h
 
 -- the assets of one user change
 module _ {E Plan : Type 0} (members : List (Member E Plan)) (user : ℕ) (before after : Assets E Plan) (there : slice_get (assets_of members) user ≡ Some before) where

@@ -40,7 +40,7 @@ use Rattle.mk_restore.proofs.Safe.{fit_keeps_safe}
 use Rattle.mk_answers.specs.Open.{holding_of}
 use Rattle.mk_record.specs.declared.last_quote.LastQuote.{LastQuote}
 use Rattle.mk_record.specs.declared.users.Member.{Member}
-use Rattle.mk_record.specs.Entries.{addition_of}
+use Rattle.mk_history.specs.Entries.{addition_of}
 use Rattle.mk_record.specs.Journals.{JournalOf}
 use Rattle.mk_record.specs.Members.{names_of, assets_of, quotes_of}
 use Rattle.mk_record.proofs.Appends.{not_found}
@@ -55,7 +55,7 @@ use Rattle.mk_market.specs.inner.Keeping.{quoted, standing_of, IsKeptQuote, IsKe
 use Rattle.mk_market.proofs.Accounted.{accounts_kept}
 use Rattle.mk_market.proofs.Growing.{SafeIn, quote_later}
 use Rattle.mk_market.proofs.Homes.{trades_have}
-use Rattle.mk_market.proofs.Owned.{push_cases, holding_same, few_moved}
+use Rattle.mk_market.proofs.Owned.{holding_same, few_moved}
 use Rattle.mk_market.proofs.Replies.{answer_allowed, refused_stays, unsettled}
 use Rattle.mk_market.proofs.TakenBack.{taken_back}
 use Rattle.mk_replay.specs.Tills.{TillOf}
@@ -85,24 +85,6 @@ suits_longer suits file longer add is each =
     subst (λ (network : List Variable). suits network longer.tree) (sym is.net)
     (each longer.tree
     (subst (λ (network : List Variable). IsTreeOf network longer.tree) is.net is.tree))
-
--- one user's assets more
-pub own_more : {A Plan : Type 0} (gains_stand : A → Meaning → Type 0) (file : MarketFile)
-    (H : List Entry) (all : List (Assets A Plan)) (user : ℕ) (own : Assets A Plan)
-    → length all ≡ user → HoldEach gains_stand file H all
-    → Holds gains_stand own (holding_of file.net file.tree H user)
-    → HoldEach gains_stand file H (all ++ own ∷ [])
-own_more {A} {Plan} gains_stand file H all user own count held new u assets at =
-    each (push_cases all u own assets at)
-  where
-    each : ((u ≡ length all) × (own ≡ assets)) ⊎ (slice_get all u ≡ Some assets)
-        → Holds gains_stand assets (holding_of file.net file.tree H u)
-    each (inl h) =
-        subst (λ (k : ℕ). Holds gains_stand assets (holding_of file.net file.tree H k))
-        (sym (h.0 ∙ count))
-        (subst (λ (x : Assets A Plan). Holds gains_stand x (holding_of file.net file.tree H user))
-        (h.1) new)
-    each (inr e) = held u assets e
 
 -- the history of a safe market is placed in a file with one question more
 module _ (file longer : MarketFile) (a : Addition) (is : IsLonger file a longer) (H : List Entry)

@@ -22,7 +22,8 @@ use Rattle.mk_exact.specs.History.{Entry, UserTrade, Settle as Settles, join_in,
 use Rattle.mk_exact.specs.History.{is_settlement, is_settled, or_nothing, payment_to}
 use Rattle.mk_exact.specs.Weight.{IsSmall, possible_states}
 use Rattle.mk_exact.proofs.After.{deposited_kept, withdrawn_kept, users_kept, resolutions_kept}
-use Rattle.mk_exact.proofs.After.{trades_kept, trades_of_kept, factor_kept, payments_before, payments_settled}
+use Rattle.mk_exact.proofs.After.{trades_kept, trades_of_kept, factor_kept, payments_before}
+use Rattle.mk_exact.proofs.After.{payments_settled}
 use Rattle.mk_exact.proofs.ExistOutcome.{outcome_exists}
 use Rattle.mk_tree.specs.Given.{GivenTree}
 use Rattle.mk_file.specs.declared.market_file.MarketFile.{MarketFile}
@@ -37,7 +38,8 @@ use Rattle.mk_reply.specs.declared.payments.Payment.{Payment}
 use Rattle.mk_reply.specs.declared.refusal.Refusal.{Refusal}
 use Rattle.mk_reply.specs.declared.reply.Reply.{Reply}
 use Rattle.mk_reply.specs.declared.reply.Reply.TheVariants.{Settled, Refused}
-use Rattle.mk_rules.specs.Answers.{IsPayment, IsSettlement, IsSettling, settled_by_rule, ends_of, IsAnswer, entry_of}
+use Rattle.mk_rules.specs.Answers.{IsPayment, IsSettlement, IsSettling, settled_by_rule, ends_of}
+use Rattle.mk_rules.specs.Answers.{IsAnswer, entry_of}
 use Rattle.mk_rules.specs.Refusals.{first_refusal, refusals}
 use Rattle.mk_rules.proofs.Unrefused.{none_applies, not_faulted, all_resolved}
 use Rattle.mk_restore.specs.Restoring.{IsSettledAt}

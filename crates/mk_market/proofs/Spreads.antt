@@ -21,7 +21,8 @@ use Rattle.mk_spread.specs.Spreads.{SpreadAsked, spread_ratio}
 use Rattle.mk_spread.specs.Bounds.{Intervals, InsideEach}
 use Rattle.mk_spread.specs.Existing.{HasValueSides}
 use Rattle.mk_spread.specs.Laws.{AreOfValues}
-use Rattle.mk_spread.specs.Markets.{AreRightBoundsOf, IsFairList, IsValueSide, value_cannot_come, values_left}
+use Rattle.mk_spread.specs.Markets.{AreRightBoundsOf, IsFairList, IsValueSide, value_cannot_come}
+use Rattle.mk_spread.specs.Markets.{values_left}
 use Rattle.mk_spread.proofs.Exist.{value_sides_exist}
 use Rattle.mk_spread.proofs.Listed.{ranged_length}
 use Rattle.mk_spread.proofs.Suits.{no_side_where}
@@ -35,7 +36,8 @@ use Rattle.mk_cash.specs.Accounts.{LedgerOf}
 use Rattle.mk_command.specs.declared.command.Command.TheVariants.{Bounds, Spread}
 use Rattle.mk_quote.specs.declared.side.SideBounds.{SideBounds}
 use Rattle.mk_quote.specs.declared.spread_quote.SpreadQuote.{SpreadQuote}
-use Rattle.mk_quote.specs.Values.{AreEachExact, AreRightForEach, AreFairForEach, EncloseEach, has_no_side}
+use Rattle.mk_quote.specs.Values.{AreEachExact, AreRightForEach, AreFairForEach, EncloseEach}
+use Rattle.mk_quote.specs.Values.{has_no_side}
 use Rattle.mk_quote.specs.Spreads.{question_of, revision_of, sides_of, intervals_of, IsSpreadFor}
 use Rattle.mk_quote.proofs.Suiting.{no_side_as}
 use Rattle.mk_reply.specs.declared.payments.Payment.{Payment}
@@ -44,7 +46,8 @@ use Rattle.mk_reply.specs.declared.refusal.Refusal.TheVariants.{Outside}
 use Rattle.mk_reply.specs.declared.reply.Reply.{Reply}
 use Rattle.mk_reply.specs.declared.reply.Reply.TheVariants.{Bounded, Spreaded, Refused}
 use Rattle.mk_reply.specs.Refusals.{given_in}
-use Rattle.mk_rules.specs.Answers.{IsBounds, IsSpreadTrade, IsOutside as PrintsOutside, IsSpreadJudged, IsSpreadJudgedAfresh, with_bounds, with_quote}
+use Rattle.mk_rules.specs.Answers.{IsBounds, IsSpreadTrade, IsOutside as PrintsOutside}
+use Rattle.mk_rules.specs.Answers.{IsSpreadJudged, IsSpreadJudgedAfresh, with_bounds, with_quote}
 use Rattle.mk_rules.specs.Refusals.{spread_named, user_number, first_refusal}
 use Rattle.mk_rules.specs.Quotes as rules
 use Rattle.mk_rules.specs.Transcript.{OfCommand, IsAllowedFor, after}
@@ -52,7 +55,8 @@ use Rattle.mk_rules.proofs.Ready.{spread_refused}
 use Rattle.mk_rules.proofs.Quoted.{same_spread_is}
 use Rattle.mk_answers.specs.Open.{IsOpen, AreSideBoundsFor}
 use Rattle.mk_record.specs.declared.last_quote.LastQuote.{LastQuote}
-use Rattle.mk_record.specs.declared.last_quote.LastQuote.TheVariants.{Limits as LastLimits, Bounds as LastBounds}
+use Rattle.mk_record.specs.declared.last_quote.LastQuote.TheVariants.{Limits as LastLimits}
+use Rattle.mk_record.specs.declared.last_quote.LastQuote.TheVariants.{Bounds as LastBounds}
 use Rattle.mk_record.specs.declared.users.Member.{Member}
 use Rattle.mk_record.specs.Journals.{JournalOf}
 use Rattle.mk_record.specs.Members.{quotes_of}

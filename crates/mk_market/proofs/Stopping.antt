@@ -1,5 +1,6 @@
 -- A question that the record does not refuse, and what can come does.
-use Rattle.std.specs.Prelude.{◌≡◌, ℕ, List, [], ◌∷◌, true, false, Option, Some, None, option_map, option_and_then, map}
+use Rattle.std.specs.Prelude.{◌≡◌, ℕ, List, [], ◌∷◌, true, false, Option, Some, None, option_map}
+use Rattle.std.specs.Prelude.{option_and_then, map}
 use Rattle.std.specs.List.{AllByRecursion}
 use Rattle.std.proofs.Common.{refl, sym, ap, ◌∙◌, subst}
 use Rattle.mk_net.specs.declared.words.Pair.{Pair}
@@ -24,7 +25,9 @@ use Rattle.mk_command.specs.declared.command.Command.TheVariants.{Price, Limits,
 use Rattle.mk_reply.specs.declared.refusal.Refusal.{Refusal}
 use Rattle.mk_reply.specs.declared.refusal.Refusal.TheVariants.{Impossible, Sure}
 use Rattle.mk_reply.specs.declared.reply.Reply.TheVariants.{Refused}
-use Rattle.mk_rules.specs.Refusals.{pairs_of, known_pairs, question_named, unknown, impossible_together, decided, refusals_by_record, refusals_by_states, first_refusal}
+use Rattle.mk_rules.specs.Refusals.{pairs_of, known_pairs, question_named, unknown}
+use Rattle.mk_rules.specs.Refusals.{impossible_together, decided, refusals_by_record}
+use Rattle.mk_rules.specs.Refusals.{refusals_by_states, first_refusal}
 use Rattle.mk_rules.proofs.Ready.{edit_refused}
 use Rattle.mk_rules.proofs.Unrefused.{none_applies}
 use Rattle.mk_answers.specs.Open.{IsOpen, CanBeAnswered}

@@ -1,11 +1,13 @@
 -- Bits are taken out.
-use Rattle.std.specs.Prelude.{◌≡◌, ℕ, ◌+◌, ◌*◌, ◌<◌, ◌≤◌, List, [], ◌∷◌, ◌++◌, map, length, Option, Some, None, option_map, IsSomeAnd, slice_get, slice_set}
+use Rattle.std.specs.Prelude.{◌≡◌, ℕ, ◌+◌, ◌*◌, ◌<◌, ◌≤◌, List, [], ◌∷◌, ◌++◌, map, length, Option}
+use Rattle.std.specs.Prelude.{Some, None, option_map, IsSomeAnd, slice_get, slice_set}
 use Rattle.std.proofs.Common.{refl, sym, ap, ap₂, inl, inr, ◌∙◌, subst, arith}
 use Rattle.std.proofs.Math.Nat.{mul-le-mul}
 use Rattle.std.proofs.lemmas.List.{length_push}
 use Rattle.mk_net.specs.Network.{Variable}
 use Rattle.mk_net.specs.Bounds.{number_limit, sharpness}
-use Rattle.mk_exact.specs.History.{Entry, Withdraw as Withdraws, users, trades, withdrawn, revision, is_settlement}
+use Rattle.mk_exact.specs.History.{Entry, Withdraw as Withdraws, users, trades, withdrawn, revision}
+use Rattle.mk_exact.specs.History.{is_settlement}
 use Rattle.mk_tree.specs.Given.{GivenTree}
 use Rattle.mk_file.specs.declared.market_file.MarketFile.{MarketFile}
 use Rattle.mk_file.specs.MarketOf.{market_of}
@@ -43,7 +45,8 @@ use Rattle.mk_market.specs.inner.Quoting.{OwnsAt}
 use Rattle.mk_record.proofs.Appends.{not_there, not_found}
 use Rattle.mk_market.proofs.Growing.{is_open, kept_grown}
 use Rattle.mk_market.proofs.Learnt.{holds_still}
-use Rattle.mk_market.proofs.Owned.{names_same, quotes_same, held_one, withdrawal_holding, withdrawal_others, few_moved}
+use Rattle.mk_market.proofs.Owned.{names_same, quotes_same, held_one, withdrawal_holding}
+use Rattle.mk_market.proofs.Owned.{withdrawal_others, few_moved}
 use Rattle.mk_market.proofs.Accounted.{paid_set, accounts_withdrawn}
 use Rattle.mk_market.proofs.Replies.{answer_allowed, none_appended, unsettled}
 use Rattle.mk_market.proofs.Weaker.{most_when}

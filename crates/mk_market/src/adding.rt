@@ -8,9 +8,10 @@ use mk_addition::AddText;
 use mk_assets::Assets;
 use mk_engine::Engine;
 use mk_file::MarketFile;
+use mk_history::AddedQuestion;
 use mk_net::NoMemory;
-use mk_record::{AddedQuestion, Journal, added_question, clique_set, refuse_add};
-use mk_replay::{assets_after, engine_after, rows_after};
+use mk_record::{Journal, added_question, clique_set, refuse_add};
+use mk_replay::{assets_of_each, engine_after, rows_after};
 use mk_reply::{Refusal, Reply};
 use mk_semiring::{MinProd, SumProd};
 use std::alloc::Global;
@@ -117,16 +118,14 @@ impl<P: Engine<SumProd>, A: Engine<MinProd>> Market<P, A> {
 }
 
 ghost use Rattle.std.specs.Prelude.{◌≡◌, ◌≤◌, ℕ, length, IfOk};
-ghost use Rattle.mk_exact.specs.History.{deposited, withdrawn};
 ghost use Rattle.mk_tree.specs.Checked.{IsTreeOf};
-ghost use Rattle.mk_assets.specs.Holdings.{max_bits};
 ghost use Rattle.mk_beliefs.specs.Meanings.{weights_of};
 ghost use Rattle.mk_file.specs.MarketOf.{market_of};
-ghost use Rattle.mk_record.specs.Entries.{addition_of};
+ghost use Rattle.mk_history.specs.Entries.{addition_of};
 ghost use Rattle.mk_replay.specs.Placed.{IsPlaced};
 ghost use Rattle.mk_rules.specs.Additions as rules;
 ghost use Rattle.mk_market.specs.Suited.{SuitsLonger};
-ghost use Rattle.mk_market.specs.inner.Adding.{CanFollow, CanRegrow, IsLonger, HoldEach, AreRegrown};
+ghost use Rattle.mk_market.specs.inner.Adding.{CanFollow, CanRegrow, IsLonger, AreRegrown};
 
 /// The most cliques of a tree: those of a file, and one for each question that is added.
 const MAX_CLIQUES: u32 = 511;
@@ -152,7 +151,7 @@ fn parts_with<P: Engine<SumProd>, A: Engine<MinProd>>(
     let plan = A::plan(alloc, &file.net, &file.tree)?;
     let known = journal.known();
     let rows = rows_after::<MinProd, A>(alloc, &file.net, &file.tree, &plan, known)?;
-    let assets = assets_of_each::<A>(alloc, &file, &plan, journal, joined)?;
+    let assets = assets_of_each::<A>(alloc, &file.net, &file.tree, &plan, journal, joined)?;
     Ok(Regrown {
         file,
         prices,
@@ -203,30 +202,5 @@ fn priced<P: Engine<SumProd>>(
         (weights_of file.now.net file.now.tree journal.now.history)) }
 {
     let plan = P::plan(alloc, &file.net, &file.tree)?;
-    engine_after::<SumProd, P>(alloc, &file.net, &file.tree, &plan, journal.entries())
-}
-
-/// The assets of each of so many users behind a journal's entries.
-fn assets_of_each<A: Engine<MinProd>>(
-    alloc: Global,
-    file: &MarketFile,
-    plan: &A::Plan,
-    journal: &Journal,
-    joined: u32,
-) -> Result<Vec<Assets<A>>, NoMemory>
-    requires tree { IsTreeOf file.now.net file.now.tree }
-    requires plan { A.plan_for plan.now file.now.net file.now.tree }
-    requires placed { IsPlaced file.now.net file.now.tree journal.now.history }
-    requires few { (u : ℕ) → deposited journal.now.history u ≤ max_bits
-        × withdrawn journal.now.history u ≤ max_bits }
-    ensures count { IfOk result (λ all. length all.items ≡ joined) }
-    ensures held { IfOk result (λ all. HoldEach A.stands_for file.now journal.now.history all.items) }
-{
-    let mut all = Vec::new(alloc);
-    for user in 0..joined {
-        let entries = journal.entries();
-        let assets = assets_after::<A>(alloc, &file.net, &file.tree, plan, entries, user)?;
-        all.push(assets)?;
-    }
-    Ok(all)
+    engine_after::<SumProd, P>(alloc, &file.net, &file.tree, &plan, journal)
 }

@@ -30,7 +30,6 @@ mod wording;
 pub use laws::{safe_has_homes, settlement_pays_off};
 pub use learning::learn;
 pub use market::Market;
-pub use mk_record::Entry;
 pub use possible::{
     Decided, SpreadDecided, Stopped, can_come, refuse_condition, refuse_decided, refuse_stopped,
 };

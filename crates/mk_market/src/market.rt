@@ -4,7 +4,7 @@ use mk_cash::Ledger;
 use mk_engine::Engine;
 use mk_file::MarketFile;
 use mk_net::NoMemory;
-use mk_record::{Entry, Journal, Users};
+use mk_record::{Journal, Users};
 use mk_replay::Till;
 use mk_reply::Payments;
 use mk_semiring::{MinProd, SumProd};
@@ -49,7 +49,6 @@ impl<P: Engine<SumProd>, A: Engine<MinProd>> Market<P, A> {
     ghost use Rattle.mk_net.specs.Bounds.{max_variables, max_points_per_bit};
     ghost use Rattle.mk_exact.specs.History.{additions};
     ghost use Rattle.mk_file.specs.MarketOf.{market_of};
-    ghost use Rattle.mk_record.specs.Entries.{changes};
     ghost use Rattle.mk_restore.specs.Laws.{IsSafe};
     ghost use Rattle.mk_market.specs.Points.{AreAccounts};
 
@@ -86,11 +85,11 @@ impl<P: Engine<SumProd>, A: Engine<MinProd>> Market<P, A> {
     }
 
     /// The accepted changes, in order. Whatever gave them, a market's safety rests on them.
-    pub fn history(&self) -> &[Entry]
-        ensures same { changes result.now ≡ (self.now.standing).history }
+    pub fn history(&self) -> &Journal
+        ensures same { result.now.history ≡ (self.now.standing).history }
         ensures safe { IsSafe self.now.market (self.now.standing).history }
     {
-        self.journal.entries()
+        &self.journal
     }
 
     /// What each user deposited, withdrew and was paid.

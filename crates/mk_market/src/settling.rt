@@ -6,7 +6,8 @@ use mk_answers::least_of;
 use mk_cash::{Ledger, cash};
 use mk_engine::Engine;
 use mk_file::MarketFile;
-use mk_record::{Journal, Payout, Users, refuse_settle};
+use mk_history::Payout;
+use mk_record::{Journal, Users, refuse_settle};
 use mk_replay::{Till, outcome_of};
 use mk_reply::{Payment, Payments, Reply};
 use mk_semiring::{MinProd, SumProd};
@@ -114,7 +115,7 @@ ghost use Rattle.mk_reply.specs.declared.payments.Payment.{Payment as Told};
 ghost use Rattle.mk_rules.specs.Answers.{IsPayment, ends_of};
 ghost use Rattle.mk_restore.specs.Laws.{IsSafe};
 ghost use Rattle.mk_answers.specs.Open.{IsOpen};
-ghost use Rattle.mk_record.specs.Entries.{ends};
+ghost use Rattle.mk_history.specs.Entries.{ends};
 ghost use Rattle.mk_record.specs.Members.{names_of, quotes_of};
 ghost use Rattle.mk_record.specs.Refused.{CanBeSettled};
 ghost use Rattle.mk_market.specs.inner.Keeping.{AreHeld};
@@ -210,7 +211,7 @@ pub(crate) fn pay_all_by_rule(file: &MarketFile, journal: &Journal, till: &mut T
 {
     let state = outcome_of(journal.known(), file.net.variables());
     till.pay_by_rule(
-        journal.entries(),
+        journal,
         journal.joined(),
         state.as_slice(),
         file.points_per_bit,

@@ -7,10 +7,11 @@ use crate::coin::{Coin, HEADS, TAILS, make_coin};
 use mk_assets::Assets;
 use mk_enclose::{Enclosure, Factor};
 use mk_engine::Engine;
+use mk_history::{Entry, Limits, Payout};
 use mk_joint::JointEngine;
 use mk_net::{Event, Name, Pair, Question, Ratio};
 use mk_quote::{Bounds, Quote};
-use mk_record::{Entry, Journal, LastQuote, Limits, Payout, Users};
+use mk_record::{Journal, LastQuote, Users};
 use mk_semiring::MinProd;
 use std::alloc::Global;
 use std::process::Abort;
@@ -36,7 +37,7 @@ fn fill(rt: &impl Abort, journal: &mut Journal) {
 }
 
 /// The kind of an entry.
-fn kind(entry: &Entry) -> u8 {
+fn kind(entry: &Entry<'_>) -> u8 {
     match entry {
         Entry::Join { .. } => b'j',
         Entry::Deposit { .. } => b'd',
@@ -48,11 +49,12 @@ fn kind(entry: &Entry) -> u8 {
     }
 }
 
-/// Stops unless the entries are of these kinds, in this order.
-fn expect_kinds(rt: &impl Abort, entries: &[Entry], kinds: &[u8]) {
-    assert!(rt; entries.len() == kinds.len());
-    for (entry, letter) in entries.iter().zip(kinds) {
-        assert!(rt; kind(entry) == *letter);
+/// Stops unless the entries of a journal are of these kinds, in this order.
+fn expect_kinds(rt: &impl Abort, journal: &Journal, kinds: &[u8]) {
+    let length = journal.length();
+    assert!(rt; length as usize == kinds.len());
+    for number in 0..length {
+        assert!(rt; kind(&journal.entry(number)) == kinds[number as usize]);
     }
 }
 
@@ -96,7 +98,7 @@ fn fill_and_settle(rt: &impl Abort, journal: &mut Journal, payments: Vec<Payout>
     resolve(rt, journal);
     settle(rt, journal, payments);
     assert!(rt; journal.revision() == 7);
-    expect_kinds(rt, journal.entries(), b"jdwttrs".as_slice());
+    expect_kinds(rt, journal, b"jdwttrs".as_slice());
 }
 
 #[test]

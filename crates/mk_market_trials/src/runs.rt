@@ -169,11 +169,11 @@ fn expect_replies<P: Engine<SumProd>, A: Engine<MinProd>>(
 }
 
 /// How many variables, points of one bit, and entries of its history a market has.
-fn numbers_of<P: Engine<SumProd>, A: Engine<MinProd>>(market: &Market<P, A>) -> (u32, u32, usize) {
+fn numbers_of<P: Engine<SumProd>, A: Engine<MinProd>>(market: &Market<P, A>) -> (u32, u32, u32) {
     (
         market.variables(),
         market.points_per_bit(),
-        market.history().len(),
+        market.history().length(),
     )
 }
 
@@ -183,7 +183,7 @@ fn expect_market<P: Engine<SumProd>, A: Engine<MinProd>>(
     alloc: Global,
     market: &mut Market<P, A>,
     run: &str,
-    numbers: (u32, u32, usize),
+    numbers: (u32, u32, u32),
 ) -> Result<(), Fail>
     requires prices { (network : List Variable) (tree : GivenTree) → P.suits network tree }
     requires assets { (network : List Variable) (tree : GivenTree) → A.suits network tree }
@@ -199,7 +199,7 @@ fn expect_run<P: Engine<SumProd>, A: Engine<MinProd>>(
     alloc: Global,
     file: &str,
     run: &str,
-    numbers: (u32, u32, usize),
+    numbers: (u32, u32, u32),
 ) -> Result<(), Fail>
     requires prices { (network : List Variable) (tree : GivenTree) → P.suits network tree }
     requires assets { (network : List Variable) (tree : GivenTree) → A.suits network tree }
@@ -215,7 +215,7 @@ fn expect_tree_run(
     alloc: Global,
     file: &str,
     run: &str,
-    numbers: (u32, u32, usize),
+    numbers: (u32, u32, u32),
 ) -> Result<(), Fail> {
     expect_run::<TreeEngine<SumProd>, TreeEngine<MinProd>>(rt, alloc, file, run, numbers)
 }

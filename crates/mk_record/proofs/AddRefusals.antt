@@ -18,8 +18,8 @@ use Rattle.mk_rules.specs.Additions.{not_running, row_count, row_width, most_sha
 use Rattle.mk_rules.specs.Additions.{row_sum, too_large, is_among, added_variable, addition_of}
 use Rattle.mk_rules.proofs.Unrefused.{none_applies}
 use Rattle.mk_rules.proofs.Additions.{extension_of}
-use Rattle.mk_record.specs.declared.entry.AddedQuestion.{AddedQuestion}
-use Rattle.mk_record.specs.Entries.{addition_of as added_by}
+use Rattle.mk_history.specs.declared.entry.AddedQuestion.{AddedQuestion}
+use Rattle.mk_history.specs.Entries.{addition_of as added_by}
 use Rattle.mk_record.proofs.Refusing.{passed}
 use Rattle.mk_record.proofs.SpreadRefusals.{front_applies, front_passed}
 use Rattle.mk_record.proofs.AddedCliques.{own_is_covered}

@@ -10,8 +10,8 @@ use Rattle.mk_exact.specs.History.{Entry, Join, Deposit, Withdraw, Trade, Resolv
 use Rattle.mk_exact.specs.History.{join_in, trade_in, resolution_in, addition_in, Addition}
 use Rattle.mk_exact.specs.History.{is_settlement, is_transfer}
 use Rattle.mk_exact.specs.History.{users, trades, resolutions, additions, is_settled}
-use Rattle.mk_record.specs.Journals.{max_additions}
-use Rattle.mk_record.specs.declared.journal.Limits.{Limits}
+use Rattle.mk_history.specs.Histories.{max_additions}
+use Rattle.mk_history.specs.declared.history.Limits.{Limits}
 use Rattle.mk_record.specs.inner.Counted.{IsCounted}
 use Rattle.mk_record.proofs.Appends.{not_found, none_more, found, one_more, not_counted, counted}
 use Rattle.mk_record.proofs.Appends.{not_there, there}
@@ -27,7 +27,6 @@ module _ (H : List Entry) (most : Limits) (known : List Pair) (joined traded mov
     transfers_made = old.transfers_made ∙ sym (not_counted H (Join name) is_transfer refl);
     additions_made = old.additions_made ∙ sym (none_more H (Join name) addition_in refl);
     settlement = old.settlement ∙ sym (not_there H (Join name) is_settlement refl);
-    all_counted = omega (arith, length_push H (Join name), old.all_counted);
     few_users = omega (arith, room, old.users_joined);
     few_trades = old.few_trades;
     few_transfers = old.few_transfers;
@@ -48,7 +47,6 @@ module _ (H : List Entry) (most : Limits) (known : List Pair) (joined traded mov
     transfers_made = rw old.transfers_made (sym (counted H (Deposit user bits) is_transfer refl));
     additions_made = old.additions_made ∙ sym (none_more H (Deposit user bits) addition_in refl);
     settlement = old.settlement ∙ sym (not_there H (Deposit user bits) is_settlement refl);
-    all_counted = omega (arith, length_push H (Deposit user bits), old.all_counted);
     few_users = old.few_users;
     few_trades = old.few_trades;
     few_transfers = omega (arith, room, old.transfers_made);
@@ -69,7 +67,6 @@ module _ (H : List Entry) (most : Limits) (known : List Pair) (joined traded mov
     transfers_made = rw old.transfers_made (sym (counted H (Withdraw user bits) is_transfer refl));
     additions_made = old.additions_made ∙ sym (none_more H (Withdraw user bits) addition_in refl);
     settlement = old.settlement ∙ sym (not_there H (Withdraw user bits) is_settlement refl);
-    all_counted = omega (arith, length_push H (Withdraw user bits), old.all_counted);
     few_users = old.few_users;
     few_trades = old.few_trades;
     few_transfers = omega (arith, room, old.transfers_made);
@@ -90,7 +87,6 @@ module _ (H : List Entry) (most : Limits) (known : List Pair) (joined traded mov
     transfers_made = old.transfers_made ∙ sym (not_counted H (Trade user ratio) is_transfer refl);
     additions_made = old.additions_made ∙ sym (none_more H (Trade user ratio) addition_in refl);
     settlement = old.settlement ∙ sym (not_there H (Trade user ratio) is_settlement refl);
-    all_counted = omega (arith, length_push H (Trade user ratio), old.all_counted);
     few_users = old.few_users;
     few_trades = omega (arith, room, old.trades_made);
     few_transfers = old.few_transfers;
@@ -111,7 +107,6 @@ module _ (H : List Entry) (most : Limits) (known : List Pair) (joined traded mov
     transfers_made = old.transfers_made ∙ sym (not_counted H (Resolve pair) is_transfer refl);
     additions_made = old.additions_made ∙ sym (none_more H (Resolve pair) addition_in refl);
     settlement = old.settlement ∙ sym (not_there H (Resolve pair) is_settlement refl);
-    all_counted = omega (arith, length_push H (Resolve pair), old.all_counted, length_push known pair);
     few_users = old.few_users;
     few_trades = old.few_trades;
     few_transfers = old.few_transfers;
@@ -132,7 +127,6 @@ module _ (H : List Entry) (most : Limits) (known : List Pair) (joined traded mov
     transfers_made = old.transfers_made ∙ sym (not_counted H (Settle payments) is_transfer refl);
     additions_made = old.additions_made ∙ sym (none_more H (Settle payments) addition_in refl);
     settlement = sym (there H (Settle payments) is_settlement refl);
-    all_counted = omega (arith, length_push H (Settle payments), rw (old.settlement ∙ room) at old.all_counted);
     few_users = old.few_users;
     few_trades = old.few_trades;
     few_transfers = old.few_transfers;
@@ -153,7 +147,6 @@ module _ (H : List Entry) (most : Limits) (known : List Pair) (joined traded mov
     transfers_made = old.transfers_made ∙ sym (not_counted H (Add a) is_transfer refl);
     additions_made = rw old.additions_made (sym (one_more H (Add a) addition_in a refl));
     settlement = old.settlement ∙ sym (not_there H (Add a) is_settlement refl);
-    all_counted = omega (arith, length_push H (Add a), old.all_counted);
     few_users = old.few_users;
     few_trades = old.few_trades;
     few_transfers = old.few_transfers;

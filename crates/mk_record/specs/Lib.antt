@@ -1,4 +1,3 @@
-pub mod Entries
 pub mod Journals
 pub mod Lending
 pub mod Members

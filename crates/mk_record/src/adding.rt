@@ -6,11 +6,11 @@ ghost use Rattle.mk_net.specs.Bounds.{max_variables};
 ghost use Rattle.mk_net.specs.Sets.{is_member};
 ghost use Rattle.mk_tree.specs.Tests.{members};
 ghost use Rattle.mk_rules.specs.Additions as rules;
-ghost use Rattle.mk_record.specs.Entries.{addition_of};
+ghost use Rattle.mk_history.specs.Entries.{addition_of};
 
-use crate::entry::AddedQuestion;
 use arrayvec::ArrayVec;
 use mk_addition::AddText;
+use mk_history::AddedQuestion;
 use mk_net::{Addition, Name, Network, VarSet};
 
 /// What a question adds to a network, where no variable has its name and its clique holds it.

@@ -1,17 +1,18 @@
 //! The accepted changes of a market.
 
-ghost use Rattle.std.specs.Prelude.{◌≡◌, ◌<◌, ◌≤◌, [], ◌∷◌, ◌++◌, false, length, map, IfOk};
+ghost use Rattle.std.specs.Prelude.{◌≡◌, ◌+◌, ◌<◌, ◌≤◌, [], ◌∷◌, ◌++◌, false, length, map, IfOk};
+ghost use Rattle.std.specs.Prelude.{take, get_or};
 ghost use Rattle.std.specs.List.{count_by};
 ghost use Rattle.mk_net.specs.Bounds.{max_users, max_variables, max_transfers, max_market_trades};
 ghost use Rattle.mk_net.specs.Trades.{trade_ratio};
 ghost use Rattle.mk_exact.specs.History.{Join, Deposit, Withdraw, Trade, Resolve, Settle, Add};
 ghost use Rattle.mk_exact.specs.History.{users, trades as trades_in, resolutions, additions};
 ghost use Rattle.mk_exact.specs.History.{is_transfer, revision, is_settled};
+ghost use Rattle.mk_history.specs.Entries.{change_of, ends, addition_of};
+ghost use Rattle.mk_history.specs.Histories.{max_additions};
 ghost use Rattle.mk_rules.specs.Refusals as rules;
-ghost use Rattle.mk_record.specs.Entries.{changes, ends, addition_of};
-ghost use Rattle.mk_record.specs.Journals.{max_additions};
 
-use crate::entry::{AddedQuestion, Entry, Payout};
+use mk_history::{AddedQuestion, Entry, History, Limits, Payout};
 use mk_net::{Name, NoMemory, Pair, Ratio};
 use std::alloc::Global;
 use std::marker::Model;
@@ -19,21 +20,10 @@ use std::marker::Model;
 /// The most variables of a market, each of which is resolved once.
 const MAX_VARIABLES: usize = 256;
 
-/// The most questions that are added to a market, which has one at least when it opens.
-const MAX_ADDITIONS: usize = MAX_VARIABLES - 1;
-
-/// The most trades, users and transfers of a market: a transfer is a deposit or a withdrawal.
-#[derive(Clone, Copy, Debug)]
-pub struct Limits {
-    pub trades: u32,
-    pub users: u32,
-    pub transfers: u32,
-}
-
 /// The accepted changes in order, with what is counted of them. All memory is taken at the start.
 #[derive(Drop)]
 pub struct Journal {
-    entries: Vec<Entry>,
+    accepted: History,
     known: Vec<Pair>,
     limits: Limits,
     joined: u32,
@@ -46,22 +36,20 @@ pub struct Journal {
 impl Model for Journal {
     ghost use Rattle.std.specs.Prelude.{vec_capacity};
     ghost use Rattle.mk_record.specs.Journals.{JournalOf};
-    ghost use Rattle.mk_record.specs.inner.Counted.{IsCounted, HasRoom};
+    ghost use Rattle.mk_record.specs.inner.Counted.{IsCounted, HasRoom, HasLimits};
 
     ghost Value = { JournalOf };
 
-    ghost use Rattle.mk_record.specs.Entries.{changes};
-
     ghost view = { λ j. record {
-      history = changes j.entries.items;
+      history = j.accepted.history;
       max_trades = j.limits.trades;
       max_users = j.limits.users;
       max_transfers = j.limits.transfers;
     } };
 
-    ghost invariant = { λ j. IsCounted (changes j.entries.items) j.limits j.known.items
+    ghost invariant = { λ j. IsCounted j.accepted.history j.limits j.known.items
         j.joined j.trades j.transfers j.added j.settled
-        × HasRoom j.limits (vec_capacity j.entries) (vec_capacity j.known) };
+        × HasLimits j.accepted j.limits × HasRoom (vec_capacity j.known) };
 }
 
 impl Journal {
@@ -77,16 +65,10 @@ impl Journal {
           max_transfers = limits.transfers;
         }) }
     {
-        let most = limits.trades as usize
-            + limits.transfers as usize
-            + limits.users as usize
-            + MAX_VARIABLES
-            + MAX_ADDITIONS
-            + 1;
-        let entries = Vec::with_capacity(alloc, most)?;
+        let accepted = History::start(alloc, limits)?;
         let known = Vec::with_capacity(alloc, MAX_VARIABLES)?;
         Ok(Journal {
-            entries,
+            accepted,
             known,
             limits,
             joined: 0,
@@ -97,18 +79,28 @@ impl Journal {
         })
     }
 
-    /// The entries in their order.
-    pub fn entries(&self) -> &[Entry]
-        ensures { changes result.now ≡ self.now.history }
+    /// How many changes were accepted.
+    pub fn length(&self) -> u32
+        ensures { result ≡ length self.now.history }
     {
-        self.entries.as_slice()
+        self.accepted.length()
     }
 
-    /// How many changes were accepted.
+    /// The change of a number, counted from 0.
+    pub fn entry(&self, k: u32) -> Entry<'_>
+        requires { k < length self.now.history }
+        ensures same { change_of result ≡ get_or self.now.history k (change_of result) }
+        ensures next { take (k + 1) self.now.history
+            ≡ take k self.now.history ++ change_of result ∷ [] }
+    {
+        self.accepted.entry(k)
+    }
+
+    /// The revision of the market: how many changes were accepted.
     pub fn revision(&self) -> u64
         ensures { result ≡ revision self.now.history }
     {
-        self.entries.len() as u64
+        self.accepted.length() as u64
     }
 
     /// The most trades that the market takes.
@@ -204,7 +196,7 @@ impl Journal {
         ensures users { self.new.max_users ≡ self.old.max_users }
         ensures transfers { self.new.max_transfers ≡ self.old.max_transfers }
     {
-        self.entries.push_reserved(Entry::Join { user });
+        self.accepted.join(user);
         self.joined += 1;
     }
 
@@ -216,7 +208,7 @@ impl Journal {
         ensures users { self.new.max_users ≡ self.old.max_users }
         ensures transfers { self.new.max_transfers ≡ self.old.max_transfers }
     {
-        self.entries.push_reserved(Entry::Deposit { user, bits });
+        self.accepted.deposit(user, bits);
         self.transfers += 1;
     }
 
@@ -228,7 +220,7 @@ impl Journal {
         ensures users { self.new.max_users ≡ self.old.max_users }
         ensures transfers { self.new.max_transfers ≡ self.old.max_transfers }
     {
-        self.entries.push_reserved(Entry::Withdraw { user, bits });
+        self.accepted.withdraw(user, bits);
         self.transfers += 1;
     }
 
@@ -240,7 +232,7 @@ impl Journal {
         ensures users { self.new.max_users ≡ self.old.max_users }
         ensures transfers { self.new.max_transfers ≡ self.old.max_transfers }
     {
-        self.entries.push_reserved(Entry::Trade { user, ratio });
+        self.accepted.trade(user, &ratio);
         self.trades += 1;
     }
 
@@ -252,7 +244,7 @@ impl Journal {
         ensures users { self.new.max_users ≡ self.old.max_users }
         ensures transfers { self.new.max_transfers ≡ self.old.max_transfers }
     {
-        self.entries.push_reserved(Entry::Resolve { pair });
+        self.accepted.resolve(pair);
         self.known.push_reserved(pair);
     }
 
@@ -264,7 +256,7 @@ impl Journal {
         ensures users { self.new.max_users ≡ self.old.max_users }
         ensures transfers { self.new.max_transfers ≡ self.old.max_transfers }
     {
-        self.entries.push_reserved(Entry::Settle { payments });
+        self.accepted.settle(payments);
         self.settled = true;
     }
 
@@ -277,7 +269,7 @@ impl Journal {
         ensures users { self.new.max_users ≡ self.old.max_users }
         ensures transfers { self.new.max_transfers ≡ self.old.max_transfers }
     {
-        self.entries.push_reserved(Entry::Add { question });
+        self.accepted.add(question);
         self.added += 1;
     }
 }

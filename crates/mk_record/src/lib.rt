@@ -5,7 +5,6 @@
 
 mod adding;
 mod asking;
-mod entry;
 mod journal;
 mod last_quote;
 mod refusals;
@@ -17,8 +16,7 @@ mod users;
 
 pub use adding::{added_question, clique_set};
 pub use asking::{ask, ask_spread, known};
-pub use entry::{AddedQuestion, Entry, Payout};
-pub use journal::{Journal, Limits};
+pub use journal::Journal;
 pub use last_quote::LastQuote;
 pub use refusals::{
     not_settled, plain_price, refuse_edit, refuse_limits, refuse_paid, refuse_price,

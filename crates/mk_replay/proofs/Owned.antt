@@ -1,6 +1,6 @@
 -- One user's assets take a history entry by entry.
-use Rattle.std.proofs.Common.{◌≡◌, ℕ, suc, ◌+◌, ◌<◌, ◌≤◌, Bool, true, false, cond, eqb, List, []}
-use Rattle.std.proofs.Common.{◌∷◌, ◌++◌, length, take, drop, get_or, refl, sym, ap, ap₂, subst, ◌∙◌}
+use Rattle.std.proofs.Common.{◌≡◌, ℕ, ◌+◌, ◌≤◌, Bool, true, false, cond, eqb, List, []}
+use Rattle.std.proofs.Common.{◌∷◌, ◌++◌, take, drop, refl, sym, ap, ap₂, subst, ◌∙◌}
 use Rattle.std.proofs.Common.{arith, add-zero, eq-eqb}
 use Rattle.std.proofs.lemmas.List.Sums.{sum_by-append, sum_by-cons}
 use Rattle.mk_net.specs.Network.{Variable}
@@ -14,10 +14,8 @@ use Rattle.mk_beliefs.proofs.Grown.{gains_grow, opening_is_rows}
 use Rattle.mk_assets.specs.declared.assets.Assets.{Assets}
 use Rattle.mk_assets.specs.Holdings.{Holding, Holds, max_bits, opening_holding}
 use Rattle.mk_answers.specs.Open.{holding_of}
-use Rattle.mk_record.specs.declared.entry.Entry.{Entry}
-use Rattle.mk_record.specs.Entries.{change_of, changes}
 use Rattle.mk_replay.specs.inner.Taking.{HasRoomFor, grown_holding}
-use Rattle.mk_replay.proofs.Replayed.{changes_more, changes_around}
+use Rattle.mk_replay.proofs.Replayed.{around}
 
 abbrev holding : Meaning → ℕ → ℕ → Holding
 holding m ins outs = record { meaning = m; deposited = ins; withdrawn = outs }
@@ -85,28 +83,24 @@ module _ (network : List Variable) (tree : GivenTree) (u : ℕ) where
   room_here front rest (history.Settle payments) few_in few_out = tt
   room_here front rest (history.Add addition) few_in few_out = tt
 
-  module _ (entries : List Entry) (d : Entry) (i : ℕ) (there : i < length entries) where
-    pub has_room : deposited (changes entries) u ≤ max_bits
-        → withdrawn (changes entries) u ≤ max_bits
-        → HasRoomFor u (change_of (get_or entries i d))
-        (holding_of network tree (changes (take i entries)) u)
+  module _ (H : List history.Entry) (e : history.Entry) (i : ℕ)
+      (next : take (i + 1) H ≡ take i H ++ e ∷ []) where
+    pub has_room : deposited H u ≤ max_bits → withdrawn H u ≤ max_bits
+        → HasRoomFor u e (holding_of network tree (take i H) u)
     has_room few_in few_out =
-        let around = changes_around entries d i there in
-        room_here (changes (take i entries)) (changes (drop (suc i) entries))
-        (change_of (get_or entries i d))
-        (subst (λ (H : List history.Entry). deposited H u ≤ max_bits) around few_in)
-        (subst (λ (H : List history.Entry). withdrawn H u ≤ max_bits) around few_out)
+        let whole = around H e i next in
+        room_here (take i H) (drop (i + 1) H) e
+        (subst (λ (H : List history.Entry). deposited H u ≤ max_bits) whole few_in)
+        (subst (λ (H : List history.Entry). withdrawn H u ≤ max_bits) whole few_out)
 
     -- one more entry is taken
     pub held_one : {E P : Type 0} (stands_for : E → Meaning → Type 0) (assets : Assets E P)
-        → Holds stands_for assets (grown_holding u (change_of (get_or entries i d))
-        (holding_of network tree (changes (take i entries)) u))
-        → Holds stands_for assets (holding_of network tree (changes (take (i + 1) entries)) u)
+        → Holds stands_for assets (grown_holding u e (holding_of network tree (take i H) u))
+        → Holds stands_for assets (holding_of network tree (take (i + 1) H) u)
     held_one stands_for assets h =
         subst (Holds stands_for assets)
-        (sym (holding_grows (changes (take i entries)) (change_of (get_or entries i d)))
-        ∙ ap (λ (H : List history.Entry). holding_of network tree H u)
-        (sym (changes_more entries d i there))) h
+        (sym (holding_grows (take i H) e)
+        ∙ ap (λ (H : List history.Entry). holding_of network tree H u) (sym next)) h
 
 -- before any entry a user holds the support of each variable, and no bits
 pub held_none : (network : List Variable) (tree : GivenTree) (u : ℕ)

@@ -1,6 +1,6 @@
 -- What is due is paid.
-use Rattle.std.proofs.Common.{◌≡◌, ℕ, suc, ◌+◌, ◌<◌, ◌≤◌, List, [], ◌∷◌, ◌++◌, map, length, take}
-use Rattle.std.proofs.Common.{drop, get_or, refl, sym, ap, subst, ◌∙◌, arith}
+use Rattle.std.proofs.Common.{◌≡◌, ℕ, ◌+◌, ◌≤◌, List, [], ◌∷◌, ◌++◌, map, length, take}
+use Rattle.std.proofs.Common.{drop, refl, sym, ap, subst, ◌∙◌, arith}
 use Rattle.std.proofs.lemmas.List.{take_all}
 use Rattle.std.proofs.lemmas.List.FromFn.{map-range_with_len_more}
 use Rattle.mk_states.specs.States.{numbers_below}
@@ -11,11 +11,9 @@ use Rattle.mk_exact.specs.Weight.{possible_states}
 use Rattle.mk_net.specs.Network.{Variable}
 use Rattle.mk_states.specs.Events.{always}
 use Rattle.mk_cash.specs.Dues.{DueOf, no_due, due_of, due_payment}
-use Rattle.mk_record.specs.declared.entry.Entry.{Entry}
-use Rattle.mk_record.specs.Entries.{change_of, changes}
 use Rattle.mk_replay.specs.ByRule.{CanBePaid}
 use Rattle.mk_replay.specs.inner.Dues.{no_dues, dues_of, CanTakeDue, dues_after}
-use Rattle.mk_replay.proofs.Replayed.{changes_more, changes_around}
+use Rattle.mk_replay.proofs.Replayed.{around}
 use Rattle.mk_replay.proofs.ListedDues.{dues_more, can_take_here}
 
 -- nothing is due to one user more
@@ -33,44 +31,33 @@ pub paid_by_rule : (joined b : ℕ) (s : List ℕ) (H : List history.Entry)
 paid_by_rule joined b s H =
     map-map (due_payment b) (λ u. due_of H u s) (numbers_below joined)
 
-module _ (entries : List Entry) (d : Entry) (i : ℕ) (there : i < length entries) (s : List ℕ)
-    (can : CanBePaid (changes entries) s) where
-  abbrev joined : ℕ
-  joined = length (users (changes entries))
-
+module _ (H : List history.Entry) (e : history.Entry) (i : ℕ)
+    (next : take (i + 1) H ≡ take i H ++ e ∷ []) (s : List ℕ) (can : CanBePaid H s) where
   -- each entry can be taken after those before it
-  pub can_take : CanTakeDue s (change_of (get_or entries i d))
-      (dues_of joined s (changes (take i entries)))
+  pub can_take : CanTakeDue s e (dues_of (length (users H)) s (take i H))
   can_take =
-      let around = changes_around entries d i there in
-      subst (λ (n : ℕ). CanTakeDue s (change_of (get_or entries i d))
-      (dues_of n s (changes (take i entries))))
-      (ap (λ (H : List history.Entry). length (users H)) (sym around))
-      (can_take_here (changes (take i entries)) (changes (drop (suc i) entries)) s
-      (change_of (get_or entries i d))
-      (subst (λ (H : List history.Entry). CanBePaid H s) around can))
+      let whole = around H e i next in
+      subst (λ (n : ℕ). CanTakeDue s e (dues_of n s (take i H)))
+      (ap (λ (H : List history.Entry). length (users H)) (sym whole))
+      (can_take_here (take i H) (drop (i + 1) H) s e
+      (subst (λ (H : List history.Entry). CanBePaid H s) whole can))
 
   -- and what is due then is what is due after it
-  pub taken : dues_after s (change_of (get_or entries i d))
-      (dues_of joined s (changes (take i entries)))
-      ≡ dues_of joined s (changes (take (i + 1) entries))
+  pub taken : dues_after s e (dues_of (length (users H)) s (take i H))
+      ≡ dues_of (length (users H)) s (take (i + 1) H)
   taken =
-      dues_more joined s (changes (take i entries)) (change_of (get_or entries i d)) can_take
-      ∙ ap (dues_of joined s) (sym (changes_more entries d i there))
+      dues_more (length (users H)) s (take i H) e can_take
+      ∙ ap (dues_of (length (users H)) s) (sym next)
 
 -- after the last entry all payments are those by rule
-pub paid_off : (b : ℕ) (s : List ℕ) (entries : List Entry) (i : ℕ) (dues : List DueOf)
-    (paid : List (ℕ × ℕ)) → length entries ≤ i
-    → dues ≡ dues_of (length (users (changes entries))) s (changes (take i entries))
+pub paid_off : (b : ℕ) (s : List ℕ) (H : List history.Entry) (i : ℕ) (dues : List DueOf)
+    (paid : List (ℕ × ℕ)) → length H ≤ i → dues ≡ dues_of (length (users H)) s (take i H)
     → paid ≡ map (due_payment b) dues
-    → paid ≡ map (payment_by_rule (changes entries) b s)
-    (numbers_below (length (users (changes entries))))
-paid_off b s entries i dues paid past due is =
-    let joined = length (users (changes entries)) in
+    → paid ≡ map (payment_by_rule H b s) (numbers_below (length (users H)))
+paid_off b s H i dues paid past due is =
     is
-    ∙ ap (map (due_payment b)) (due ∙ ap (λ (es : List Entry). dues_of joined s (changes es))
-    (take_all i entries past))
-    ∙ paid_by_rule joined b s (changes entries)
+    ∙ ap (map (due_payment b)) (due ∙ ap (dues_of (length (users H)) s) (take_all i H past))
+    ∙ paid_by_rule (length (users H)) b s H
 
 -- and where this state alone is possible, those of the outcome
 pub in_outcome : (network : List Variable) (H : List history.Entry) (b : ℕ) (s : List ℕ)

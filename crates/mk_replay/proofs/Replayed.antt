@@ -1,9 +1,9 @@
 -- An engine takes a history entry by entry.
-use Rattle.std.proofs.Common.{◌≡◌, ℕ, zero, suc, ◌+◌, ◌<◌, List, [], ◌∷◌, ◌++◌, length, take, drop}
-use Rattle.std.proofs.Common.{get_or, true, is_some, refl, sym, ap, subst, ◌∙◌, arith}
-use Rattle.std.proofs.Common.{length-append, eq-eqb}
+use Rattle.std.proofs.Common.{◌≡◌, ℕ, ◌+◌, ◌<◌, List, [], ◌∷◌, ◌++◌, length, take, drop}
+use Rattle.std.proofs.Common.{true, is_some, refl, sym, ap, subst, ◌∙◌, arith}
+use Rattle.std.proofs.Common.{length-append, append_assoc, eq-eqb}
 use Rattle.std.specs.List.{AllByRecursion}
-use Rattle.std.proofs.lemmas.List.{map-append, take_more}
+use Rattle.std.proofs.lemmas.List.{take-append-drop}
 use Rattle.std.proofs.lemmas.List.Elements.{filter_map-append}
 use Rattle.mk_net.specs.declared.words.Pair.{Pair}
 use Rattle.mk_net.specs.Asked.{TradeRatio, ratio_pairs}
@@ -20,41 +20,25 @@ use Rattle.mk_tree.proofs.Held.{pair_has_home}
 use Rattle.mk_engine.specs.Meaning.{Meaning, RatioOf, max_factors, with_factor}
 use Rattle.mk_beliefs.specs.Meanings.{weights_of, gains_of, grown, grown_for}
 use Rattle.mk_beliefs.proofs.Grown.{weights_grow, gains_grow, factors_are_few}
-use Rattle.mk_record.specs.declared.entry.Entry.{Entry}
-use Rattle.mk_record.specs.Entries.{change_of, changes}
 use Rattle.mk_replay.specs.Placed.{IsPlaced}
 use Rattle.mk_replay.specs.inner.Taking.{CanTakeBy}
 
-pub changes_more : (entries : List Entry) (d : Entry) (i : ℕ) → i < length entries
-    → changes (take (i + 1) entries) ≡ changes (take i entries) ++ change_of (get_or entries i d) ∷
-    []
-changes_more entries d i l = ap changes (take_more entries i d l) ∙ map-append change_of
-    (take i entries) (get_or entries i d ∷ [])
-
-split_at : {X : Type 0} (xs : List X) (d : X) (i : ℕ) → i < length xs
-    → xs ≡ take i xs ++ get_or xs i d ∷ drop (suc i) xs
-split_at [] d i l = absurd (omega arith)
-split_at (x ∷ xs) d zero l = refl
-split_at (x ∷ xs) d (suc i) l = ap (λ ys. x ∷ ys) (split_at xs d i (omega arith))
-
--- the changes before one of them, it, and those behind it
-pub changes_around : (entries : List Entry) (d : Entry) (i : ℕ) → i < length entries
-    → changes entries ≡ changes (take i entries) ++ change_of (get_or entries i d) ∷
-    changes (drop (suc i) entries)
-changes_around entries d i l = ap changes (split_at entries d i l) ∙ map-append change_of
-    (take i entries) (get_or entries i d ∷ drop (suc i) entries)
+-- what stands before one of the changes, it, and those behind it
+pub around : (H : List history.Entry) (e : history.Entry) (i : ℕ)
+    → take (i + 1) H ≡ take i H ++ e ∷ [] → H ≡ take i H ++ e ∷ drop (i + 1) H
+around H e i next = sym (take-append-drop (i + 1) H)
+    ∙ ap (λ (front : List history.Entry). front ++ drop (i + 1) H) next
+    ∙ append_assoc (take i H) (e ∷ []) (drop (i + 1) H)
 
 -- one more entry is taken
 pub take_one : {E : Type 0} (stands_for : E → Meaning → Type 0) (engine : E)
-    (network : List Variable) (tree : GivenTree) (entries : List Entry) (d : Entry) (i : ℕ)
-    → i < length entries
-    → stands_for engine (grown (change_of (get_or entries i d))
-    (weights_of network tree (changes (take i entries))))
-    → stands_for engine (weights_of network tree (changes (take (i + 1) entries)))
-take_one stands_for engine network tree entries d i l h =
+    (network : List Variable) (tree : GivenTree) (H : List history.Entry) (e : history.Entry) (i : ℕ)
+    → take (i + 1) H ≡ take i H ++ e ∷ []
+    → stands_for engine (grown e (weights_of network tree (take i H)))
+    → stands_for engine (weights_of network tree (take (i + 1) H))
+take_one stands_for engine network tree H e i next h =
     subst (λ (m : Meaning). stands_for engine m)
-    (sym (weights_grow network tree (changes (take i entries)) (change_of (get_or entries i d)))
-    ∙ ap (weights_of network tree) (sym (changes_more entries d i l))) h
+    (sym (weights_grow network tree (take i H) e) ∙ ap (weights_of network tree) (sym next)) h
 
 -- the last part of what holds of each
 pub all_back : {X : Type 0} (P : X → Type 0) (xs ys : List X) → AllByRecursion P (xs ++ ys)
@@ -131,14 +115,10 @@ module _ (network : List Variable) (tree : GivenTree) (legal : IsNetwork network
         ((fit.0.ratio, at_home.0, room.0), (fit.0.ratio, at_home.0, room.1))
 
     -- each entry can be taken after those before it, by the weights and by each user's gains
-    pub can_take_one : (u : ℕ) (entries : List Entry) (d : Entry) (i : ℕ) → i < length entries
-        → IsPlaced network tree (changes entries)
-        → CanTakeBy (weights_of network tree (changes (take i entries)))
-        (change_of (get_or entries i d))
-        × CanTakeBy (gains_of network tree (changes (take i entries)) u)
-        (change_of (get_or entries i d))
-    can_take_one u entries d i l placed =
-        can_take_here u (changes (take i entries)) (changes (drop (suc i) entries))
-        (change_of (get_or entries i d))
-        (subst (λ (H : List history.Entry). IsPlaced network tree H)
-        (changes_around entries d i l) placed)
+    pub can_take_one : (u : ℕ) (H : List history.Entry) (e : history.Entry) (i : ℕ)
+        → take (i + 1) H ≡ take i H ++ e ∷ [] → IsPlaced network tree H
+        → CanTakeBy (weights_of network tree (take i H)) e
+        × CanTakeBy (gains_of network tree (take i H) u) e
+    can_take_one u H e i next placed =
+        can_take_here u (take i H) (drop (i + 1) H) e
+        (subst (λ (H : List history.Entry). IsPlaced network tree H) (around H e i next) placed)

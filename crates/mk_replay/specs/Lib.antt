@@ -1,4 +1,5 @@
 pub mod Placed
+pub mod Each
 pub mod Known
 pub mod ByRule
 pub mod Tills

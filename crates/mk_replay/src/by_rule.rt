@@ -11,29 +11,31 @@ ghost use Rattle.mk_exact.specs.Proper.{IsProper};
 ghost use Rattle.mk_exact.specs.Weight.{possible_states};
 ghost use Rattle.mk_exact.specs.ByRule.{payment_by_rule, payments_by_rule};
 ghost use Rattle.mk_cash.specs.Dues.{due_payment};
-ghost use Rattle.mk_record.specs.Entries.{changes, change_of, ends};
+ghost use Rattle.mk_history.specs.Entries.{change_of, ends};
 ghost use Rattle.mk_replay.specs.ByRule.{CanBePaid, AreResolved};
 ghost use Rattle.mk_replay.specs.inner.Dues.{no_dues, dues_after, CanTakeDue, value_given};
 
 use arrayvec::ArrayVec;
 use mk_cash::Due;
+use mk_history::{Entry, Payout};
 use mk_net::{Pair, Ratio};
-use mk_record::{Entry, Payout};
+use mk_record::Journal;
 
 /// The payments by rule to all users of a history, in the order of joining, in the one state that
 /// its resolutions leave.
 ///
-/// It asks no engine, reads each entry once and takes no memory: both lists have room for all users.
+/// It asks no engine, reads each entry once and takes no memory: both lists have room for all
+/// users.
 pub fn pay_by_rule(
-    history: &[Entry],
+    history: &Journal,
     joined: u32,
     state: &[u32],
     points_per_bit: u32,
     dues: &mut Vec<Due>,
     payments: &mut Vec<Payout>,
 )
-    requires history { CanBePaid (changes history.now) state.now }
-    requires joined { joined ≡ length (users (changes history.now)) }
+    requires history { CanBePaid history.now.history state.now }
+    requires joined { joined ≡ length (users history.now.history) }
     requires some_points { 1 ≤ points_per_bit }
     requires few_points { points_per_bit ≤ max_points_per_bit }
     requires no_dues { dues.old.items ≡ [] }
@@ -41,17 +43,19 @@ pub fn pay_by_rule(
     requires unpaid { payments.old.items ≡ [] }
     requires payment_room { joined ≤ vec_capacity payments.old }
     ensures payments { map ends payments.new.items
-        ≡ map (payment_by_rule (changes history.now) points_per_bit state.now)
-        (numbers_below (length (users (changes history.now)))) }
+        ≡ map (payment_by_rule history.now.history points_per_bit state.now)
+        (numbers_below (length (users history.now.history))) }
     ensures by_rule { (network : List Variable)
-        → possible_states network (changes history.now) always ≡ state.now ∷ []
-        → map ends payments.new.items ≡ payments_by_rule network (changes history.now) points_per_bit }
+        → possible_states network history.now.history always ≡ state.now ∷ []
+        → map ends payments.new.items
+        ≡ payments_by_rule network history.now.history points_per_bit }
     ensures due_capacity { vec_capacity dues.new ≡ vec_capacity dues.old }
     ensures payment_capacity { vec_capacity payments.new ≡ vec_capacity payments.old }
 {
     start_dues(joined, dues);
-    for entry in history {
-        take_entry(entry, state, dues);
+    for number in 0..history.length() {
+        let entry = history.entry(number);
+        take_entry(&entry, state, dues);
     }
     pay_dues(dues.as_slice(), points_per_bit, payments);
 }
@@ -69,7 +73,7 @@ fn start_dues(joined: u32, dues: &mut Vec<Due>)
 }
 
 /// What is due after one more entry.
-fn take_entry(entry: &Entry, state: &[u32], dues: &mut Vec<Due>)
+fn take_entry(entry: &Entry<'_>, state: &[u32], dues: &mut Vec<Due>)
     requires { CanTakeDue state.now (change_of entry.now) dues.old.items }
     ensures dues { dues.new.items ≡ dues_after state.now (change_of entry.now) dues.old.items }
     ensures capacity { vec_capacity dues.new ≡ vec_capacity dues.old }

@@ -5,14 +5,15 @@ ghost use Rattle.mk_tree.specs.Checked.{IsTreeOf};
 ghost use Rattle.mk_tree.specs.Given.{GivenTree};
 ghost use Rattle.mk_engine.specs.Meaning.{Meaning};
 ghost use Rattle.mk_beliefs.specs.Meanings.{weights_of, rows_of, grown};
-ghost use Rattle.mk_record.specs.Entries.{change_of, changes};
+ghost use Rattle.mk_history.specs.Entries.{change_of};
 ghost use Rattle.mk_replay.specs.Placed.{IsPlaced};
 ghost use Rattle.mk_replay.specs.inner.Taking.{CanTake};
 
 use crate::homes::{home_of_pair, home_of_trade};
 use mk_engine::Engine;
+use mk_history::Entry;
 use mk_net::{Network, NoMemory};
-use mk_record::Entry;
+use mk_record::Journal;
 use mk_semiring::Semiring;
 use mk_tree::Tree;
 use std::alloc::Global;
@@ -24,18 +25,19 @@ pub fn engine_after<R: Semiring, E: Engine<R>>(
     net: &Network,
     tree: &Tree,
     plan: &E::Plan,
-    history: &[Entry],
+    history: &Journal,
 ) -> Result<E, NoMemory>
     requires tree { IsTreeOf net.now tree.now }
     requires plan { E.plan_for plan.now net.now tree.now }
-    requires history { IsPlaced net.now tree.now (changes history.now) }
+    requires history { IsPlaced net.now tree.now history.now.history }
     ensures stands { IfOk result (λ engine. E.stands_for engine
-        (weights_of net.now tree.now (changes history.now))) }
+        (weights_of net.now tree.now history.now.history)) }
     ensures network { IfOk result (λ _. IsNetwork net.now) }
 {
     let mut engine = weighed::<R, E>(alloc, net, plan)?;
-    for entry in history {
-        take::<R, E>(&mut engine, tree, entry);
+    for number in 0..history.length() {
+        let entry = history.entry(number);
+        take::<R, E>(&mut engine, tree, &entry);
     }
     Ok(engine)
 }
@@ -60,7 +62,7 @@ pub(crate) fn weighed<R: Semiring, E: Engine<R>>(
 
 /// The engine takes one entry: a trade multiplies the weights, a resolution is known, and nothing
 /// else changes them.
-fn take<R: Semiring, E: Engine<R>>(engine: &mut E, tree: &Tree, entry: &Entry)
+fn take<R: Semiring, E: Engine<R>>(engine: &mut E, tree: &Tree, entry: &Entry<'_>)
     requires { CanTake E.stands_for engine.old tree.now (change_of entry.now) }
     ensures { (m : Meaning) → E.stands_for engine.old m
         → E.stands_for engine.new (grown (change_of entry.now) m) }

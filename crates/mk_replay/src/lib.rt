@@ -11,6 +11,6 @@ mod till;
 
 pub use by_rule::{outcome_of, pay_by_rule, units_at};
 pub use engines::engine_after;
-pub use holdings::assets_after;
+pub use holdings::assets_of_each;
 pub use rows::{know_all, rows_after};
 pub use till::Till;

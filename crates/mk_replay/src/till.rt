@@ -5,19 +5,20 @@ ghost use Rattle.mk_net.specs.Bounds.{max_users, max_points_per_bit, number_limi
 ghost use Rattle.mk_states.specs.States.{numbers_below};
 ghost use Rattle.mk_exact.specs.History.{users};
 ghost use Rattle.mk_exact.specs.ByRule.{payment_by_rule, paid_in_all};
-ghost use Rattle.mk_record.specs.Entries.{changes, ends};
+ghost use Rattle.mk_history.specs.Entries.{ends};
 ghost use Rattle.mk_replay.specs.ByRule.{CanBePaid};
 ghost use Rattle.mk_replay.specs.Tills.{room_for};
 
 use crate::by_rule::pay_by_rule;
 use mk_cash::Due;
+use mk_history::Payout;
 use mk_net::NoMemory;
-use mk_record::{Entry, Payout};
+use mk_record::Journal;
 use std::alloc::Global;
 use std::marker::Model;
 
-/// Payments, with room for one to each user that a market takes, and for what each is due by rule. All memory is taken at the
-/// start; what is not written yet is storage that nobody holds.
+/// Payments, with room for one to each user that a market takes, and for what each is due by rule.
+/// All memory is taken at the start; what is not written yet is storage that nobody holds.
 #[derive(Drop)]
 pub struct Till {
     dues: Vec<Due>,
@@ -27,7 +28,7 @@ pub struct Till {
 
 impl Model for Till {
     ghost use Rattle.std.specs.Prelude.{◌≤◌, map, length, vec_capacity};
-    ghost use Rattle.mk_record.specs.Entries.{ends};
+    ghost use Rattle.mk_history.specs.Entries.{ends};
     ghost use Rattle.mk_replay.specs.Tills.{TillOf};
 
     ghost Value = { TillOf };
@@ -68,24 +69,25 @@ impl Till {
         self.payments.clear();
     }
 
-    /// Puts in the payments by rule to all users of a history, in the state that its resolutions leave, in place of those that
-    /// were there. It asks no engine, reads each entry once and takes no memory.
+    /// Puts in the payments by rule to all users of a history, in the state that its resolutions
+    /// leave, in place of those that were there. It asks no engine, reads each entry once and takes no
+    /// memory.
     pub fn pay_by_rule(
         &mut self,
-        history: &[Entry],
+        history: &Journal,
         joined: u32,
         state: &[u32],
         points_per_bit: u32,
     )
-        requires can { CanBePaid (changes history.now) state.now }
-        requires joined { joined ≡ length (users (changes history.now)) }
+        requires can { CanBePaid history.now.history state.now }
+        requires joined { joined ≡ length (users history.now.history) }
         requires some_points { 1 ≤ points_per_bit }
         requires few_points { points_per_bit ≤ max_points_per_bit }
         requires room { joined ≤ self.old.room }
         ensures { self.new ≡ record self.old {
           payments =
-              map (payment_by_rule (changes history.now) points_per_bit state.now)
-              (numbers_below (length (users (changes history.now))));
+              map (payment_by_rule history.now.history points_per_bit state.now)
+              (numbers_below (length (users history.now.history)));
         } }
     {
         self.dues.clear();

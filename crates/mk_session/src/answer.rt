@@ -482,11 +482,11 @@ impl<J> Conversation<J> {
             (λ _. LeavesSince (J.leaves disk.new name bytes) (J.passes begun disk.new name bytes)
             first (all ++ records) least)) }
     {
-        let before = market.history().len();
+        let before = market.history().length();
         let words = &mut self.words;
         print_answer(alloc, market, self.lines.line(), words, &mut self.line);
         if self.keeper.keeps() {
-            if market.history().len() != before {
+            if market.history().length() != before {
                 let line = self.lines.line();
                 let printed = self.line.as_str().as_bytes();
                 return take_change(line, printed, &mut self.keeper, disk);

@@ -3,17 +3,18 @@ use Rattle.std.proofs.Common.{◌≡◌, ℕ, zero, suc, ◌+◌, ◌<◌, ◌�
 use Rattle.std.proofs.lemmas.Bool.{eqb-true, eq-eqb}
 use Rattle.mk_net.specs.Texts.{same_text}
 use Rattle.mk_net.specs.inner.TextLaws.{equal_of_same_text, same_text_of_equal}
+use Rattle.mk_exact.specs.History as history
 use Rattle.mk_exact.specs.History.{users}
-use Rattle.mk_record.specs.declared.entry.Entry.{Entry}
-use Rattle.mk_record.specs.declared.entry.Entry.TheVariants.{Join, Deposit, Withdraw, Trade}
-use Rattle.mk_record.specs.declared.entry.Entry.TheVariants.{Resolve, Settle, Add}
-use Rattle.mk_record.specs.Entries.{changes}
+use Rattle.mk_history.specs.declared.entry.Entry.{Entry}
+use Rattle.mk_history.specs.declared.entry.Entry.TheVariants.{Join, Deposit, Withdraw, Trade}
+use Rattle.mk_history.specs.declared.entry.Entry.TheVariants.{Resolve, Settle, Add}
+use Rattle.mk_history.specs.Entries.{change_of}
 use Rattle.mk_reply.specs.declared.payments.Payment.{Payment}
 
 -- the payments from a place on are those to the users from a change on
-abbrev pub PayRest : List Payment → List Entry → ℕ → ℕ → Type 0
-PayRest payments entries n i =
-    map (λ (p : Payment). p.user) (drop n payments) ≡ users (changes (drop i entries))
+abbrev pub PayRest : List Payment → List history.Entry → ℕ → ℕ → Type 0
+PayRest payments H n i =
+    map (λ (p : Payment). p.user) (drop n payments) ≡ users (drop i H)
 
 at_found : {X : Type 0} (xs : List X) (i : ℕ) (d : X) → i < length xs
     → drop i xs ≡ get_or xs i d ∷ drop (i + 1) xs
@@ -33,15 +34,15 @@ past_end (x ∷ xs) zero past = absurd (omega (arith, past))
 past_end (x ∷ xs) (suc i) past = past_end xs i (omega (arith, past))
 
 -- a user joined, to whom the next payment is
-pub joined_rest : (W : Type 0) (payments : List Payment) (entries : List Entry) (n i : ℕ)
-    (p : Payment) (entry : Entry) (name : List ℕ) → n < length payments
-    → i < length entries → entry ≡ get_or entries i entry → entry ≡ Join name
-    → false ≡ not (same_text (get_or payments n p).user name) → (W ↔ PayRest payments entries n i)
-    → W ↔ PayRest payments entries (n + 1) (i + 1)
-joined_rest W payments entries n i p entry name within inside stands join same before =
+pub joined_rest : (W : Type 0) (payments : List Payment) (H : List history.Entry) (n i : ℕ)
+    (p : Payment) (entry : history.Entry) (name : List ℕ) → n < length payments
+    → i < length H → entry ≡ get_or H i entry → entry ≡ history.Join name
+    → false ≡ not (same_text (get_or payments n p).user name) → (W ↔ PayRest payments H n i)
+    → W ↔ PayRest payments H (n + 1) (i + 1)
+joined_rest W payments H n i p entry name within inside stands join same before =
     let left = at_found payments n p within in
-    let here : drop i entries ≡ Join name ∷ drop (i + 1) entries =
-    at_place entries i entry inside stands ∙ ap (λ (e : Entry). e ∷ drop (i + 1) entries) join in
+    let here : drop i H ≡ history.Join name ∷ drop (i + 1) H =
+    at_place H i entry inside stands ∙ ap (λ (e : history.Entry). e ∷ drop (i + 1) H) join in
     let user : (get_or payments n p).user ≡ name =
     named (same_text (get_or payments n p).user name) refl same in
     let now = rw (left, here) at before in (
@@ -55,18 +56,18 @@ joined_rest W payments entries n i p entry name within inside stands join same b
     named false e alike = cc
 
 -- another change
-pub other_rest : (W : Type 0) (payments : List Payment) (entries : List Entry) (n i : ℕ)
-    (entry : Entry) → i < length entries → entry ≡ get_or entries i entry
-    → ((name : List ℕ) → entry ≡ Join name → ⊥) → (W ↔ PayRest payments entries n i)
-    → W ↔ PayRest payments entries n (i + 1)
-other_rest W payments entries n i entry inside stands other before =
-    let here : users (changes (drop i entries)) ≡ users (changes (drop (i + 1) entries)) =
-    ap (λ (es : List Entry). users (changes es)) (at_place entries i entry inside stands)
-    ∙ none_joins entry (drop (i + 1) entries) other in
+pub other_rest : (W : Type 0) (payments : List Payment) (H : List history.Entry) (n i : ℕ)
+    (entry : Entry) → i < length H → change_of entry ≡ get_or H i (change_of entry)
+    → ((name : List ℕ) → entry ≡ Join name → ⊥) → (W ↔ PayRest payments H n i)
+    → W ↔ PayRest payments H n (i + 1)
+other_rest W payments H n i entry inside stands other before =
+    let here : users (drop i H) ≡ users (drop (i + 1) H) =
+    ap users (at_place H i (change_of entry) inside stands)
+    ∙ none_joins entry (drop (i + 1) H) other in
     ((λ w. before.0 w ∙ here), (λ e. before.1 (e ∙ sym here)))
   where
-    none_joins : (e : Entry) (rest : List Entry) → ((name : List ℕ) → e ≡ Join name → ⊥)
-        → users (changes (e ∷ rest)) ≡ users (changes rest)
+    none_joins : (e : Entry) (rest : List history.Entry) → ((name : List ℕ) → e ≡ Join name → ⊥)
+        → users (change_of e ∷ rest) ≡ users rest
     none_joins (Join name) rest other = absurd (other name refl)
     none_joins (Deposit user bits) rest other = refl
     none_joins (Withdraw user bits) rest other = refl
@@ -76,24 +77,24 @@ other_rest W payments entries n i entry inside stands other before =
     none_joins (Add question) rest other = refl
 
 -- a user joined, and no payment is left, or the next is to another
-pub none_left : (payments : List Payment) (entries : List Entry) (n i : ℕ) (entry : Entry)
-    (name : List ℕ) → length payments ≤ n → i < length entries
-    → entry ≡ get_or entries i entry → entry ≡ Join name → PayRest payments entries n i → ⊥
-none_left payments entries n i entry name past inside stands join rest =
+pub none_left : (payments : List Payment) (H : List history.Entry) (n i : ℕ) (entry : history.Entry)
+    (name : List ℕ) → length payments ≤ n → i < length H
+    → entry ≡ get_or H i entry → entry ≡ history.Join name → PayRest payments H n i → ⊥
+none_left payments H n i entry name past inside stands join rest =
     let left = past_end payments n past in
-    let here : drop i entries ≡ Join name ∷ drop (i + 1) entries =
-    at_place entries i entry inside stands ∙ ap (λ (e : Entry). e ∷ drop (i + 1) entries) join in
+    let here : drop i H ≡ history.Join name ∷ drop (i + 1) H =
+    at_place H i entry inside stands ∙ ap (λ (e : history.Entry). e ∷ drop (i + 1) H) join in
     let e = rw (left, here) at rest in
     cc
 
-pub another_next : (payments : List Payment) (entries : List Entry) (n i : ℕ) (p : Payment)
-    (entry : Entry) (name : List ℕ) → n < length payments
-    → i < length entries → entry ≡ get_or entries i entry → entry ≡ Join name
-    → true ≡ not (same_text (get_or payments n p).user name) → PayRest payments entries n i → ⊥
-another_next payments entries n i p entry name within inside stands join other rest =
+pub another_next : (payments : List Payment) (H : List history.Entry) (n i : ℕ) (p : Payment)
+    (entry : history.Entry) (name : List ℕ) → n < length payments
+    → i < length H → entry ≡ get_or H i entry → entry ≡ history.Join name
+    → true ≡ not (same_text (get_or payments n p).user name) → PayRest payments H n i → ⊥
+another_next payments H n i p entry name within inside stands join other rest =
     let left = at_found payments n p within in
-    let here : drop i entries ≡ Join name ∷ drop (i + 1) entries =
-    at_place entries i entry inside stands ∙ ap (λ (e : Entry). e ∷ drop (i + 1) entries) join in
+    let here : drop i H ≡ history.Join name ∷ drop (i + 1) H =
+    at_place H i entry inside stands ∙ ap (λ (e : history.Entry). e ∷ drop (i + 1) H) join in
     let e = rw (left, here) at rest in
     let same : (get_or payments n p).user ≡ name = cc in
     let yes = same_text_of_equal (get_or payments n p).user name same in
@@ -101,11 +102,11 @@ another_next payments entries n i p entry name within inside stands join other r
     cc
 
 -- behind the last change
-pub at_end : (W : Type 0) (payments : List Payment) (entries : List Entry) (n i : ℕ)
-    → n ≤ length payments → length entries ≤ i → (W ↔ PayRest payments entries n i)
+pub at_end : (W : Type 0) (payments : List Payment) (H : List history.Entry) (n i : ℕ)
+    → n ≤ length payments → length H ≤ i → (W ↔ PayRest payments H n i)
     → ((n == length payments) ≡ true) ↔ W
-at_end W payments entries n i within past before =
-    let right = past_end entries i past in
+at_end W payments H n i within past before =
+    let right = past_end H i past in
     let now = rw right at before in (
       (λ same. let all : n ≡ length payments = eqb-true n (length payments) same in
           let left = past_end payments n (omega (arith, all)) in

@@ -1,8 +1,8 @@
 -- The walk over all states, value by value.
-use Rattle.std.proofs.Common.{◌≡◌, ℕ, ◌+◌, ◌-◌, ◌*◌, ◌^◌, ◌<◌, ◌≤◌, min, List, [], ◌∷◌, ◌++◌, length, get_or, take, drop, slice_index, sum_by, sym, ap, ap₂, ◌∙◌, arith, append_assoc, append-nil, zero-mul, true, ltb, ◌↔◌}
+use Rattle.std.proofs.Common.{◌≡◌, ℕ, ◌+◌, ◌-◌, ◌*◌, ◌^◌, ◌<◌, ◌≤◌, min, List, [], ◌∷◌, ◌++◌, length, take, drop, slice_index, sum_by, sym, ap, ap₂, ◌∙◌, arith, append_assoc, append-nil, zero-mul, true, ltb, ◌↔◌}
 use Rattle.std.proofs.lemmas.Bool.{ltb-true, lt-ltb}
 use Rattle.std.proofs.Math.Path.{fun_ext}
-use Rattle.std.proofs.lemmas.List.{map_more, drop_more, drop_all}
+use Rattle.std.proofs.lemmas.List.{drop_more, drop_all}
 use Rattle.std.proofs.lemmas.List.Sums.{sum_by_push}
 use Rattle.mk_net.specs.Network.{Variable, sizes}
 use Rattle.mk_states.specs.States.{states, numbers_below, plus_over, product_by}
@@ -15,23 +15,19 @@ use Rattle.mk_exact.proofs.Single.{over_all}
 use Rattle.mk_walk.specs.Walked.{capped}
 use Rattle.mk_walk.proofs.Weights.{capped_times, numbers_more}
 use Rattle.mk_walk.proofs.Totals.{capped_plus}
-use Rattle.mk_record.specs.declared.entry.Entry.{Entry}
-use Rattle.mk_record.specs.Entries.{change_of, changes}
 use Rattle.mk_verify.specs.inner.Walks.{times, behind}
 use Rattle.mk_verify.proofs.SmallWeights.{weight_times}
 
 -- one change more
-pub more_weight : (network : List Variable) (s : List ℕ) (es : List Entry) (i : ℕ) (e : Entry) (w t w' : ℕ) → i < length es → e ≡ get_or es i e
-    → w ≡ capped (weight network (changes (take i es)) s) → t ≡ times (change_of e) s → w' ≡ min (w * t) (2 ^ 128 - 1)
-    → w' ≡ capped (weight network (changes (take (i + 1) es)) s)
-more_weight network s es i e w t w' h is p q r =
+pub more_weight : (network : List Variable) (s : List ℕ) (H : List history.Entry) (i : ℕ) (e : history.Entry) (w t w' : ℕ)
+    → take (i + 1) H ≡ take i H ++ e ∷ []
+    → w ≡ capped (weight network (take i H) s) → t ≡ times e s → w' ≡ min (w * t) (2 ^ 128 - 1)
+    → w' ≡ capped (weight network (take (i + 1) H) s)
+more_weight network s H i e w t w' next p q r =
     r ∙ ap (λ (n : ℕ). min (n * t) (2 ^ 128 - 1)) p
-    ∙ ap (λ (n : ℕ). min (capped (weight network (changes (take i es)) s) * n) (2 ^ 128 - 1)) q
-    ∙ capped_times (weight network (changes (take i es)) s) (times (change_of e) s)
-    ∙ ap capped (sym (weight_times network (changes (take i es)) (change_of e) s) ∙ sym (ap (λ (H : List history.Entry). weight network H s) taken))
-  where
-    taken : changes (take (i + 1) es) ≡ changes (take i es) ++ change_of e ∷ []
-    taken = map_more change_of es i e h ∙ ap (λ (x : Entry). changes (take i es) ++ change_of x ∷ []) (sym is)
+    ∙ ap (λ (n : ℕ). min (capped (weight network (take i H) s) * n) (2 ^ 128 - 1)) q
+    ∙ capped_times (weight network (take i H) s) (times e s)
+    ∙ ap capped (sym (weight_times network (take i H) e s) ∙ sym (ap (λ (H : List history.Entry). weight network H s) next))
 
 -- one value more
 pub more_behind : (f : ℕ → ℕ) (v sum w sum' : ℕ) → sum ≡ capped (sum_by f (numbers_below v)) → w ≡ capped (f v) → sum' ≡ min (sum + w) (2 ^ 128 - 1)

@@ -161,7 +161,7 @@ fn keep_bounds<P: Engine<SumProd>, A: Engine<MinProd>>(
 pub(crate) fn revision_of<P: Engine<SumProd>, A: Engine<MinProd>>(market: &Market<P, A>) -> u64
     ensures { result ≡ revision (market.now.standing).history }
 {
-    market.history().len() as u64
+    market.history().revision()
 }
 
 /// A copy of intervals.

@@ -18,7 +18,7 @@ use mk_semiring::{MinProd, SumProd};
 pub fn is_next<P: Engine<SumProd>, A: Engine<MinProd>>(market: &Market<P, A>, at: u64) -> bool
     ensures { (result ≡ true) ↔ (at ≡ revision (market.now.standing).history + 1) }
 {
-    at > 0 && at - 1 == market.history().len() as u64
+    at > 0 && at - 1 == market.history().revision()
 }
 
 /// What is judged by words alone is never left open.

@@ -8,7 +8,6 @@ ghost use Rattle.mk_exact.specs.History.{users};
 ghost use Rattle.mk_exact.specs.Sound.{IsSound};
 ghost use Rattle.mk_exact.specs.Weight.{possible_states};
 ghost use Rattle.mk_command.specs.declared.command.Command.TheVariants as command;
-ghost use Rattle.mk_record.specs.Entries.{changes};
 ghost use Rattle.mk_reply.specs.Replies.{IsReply, IsPayment as IsReadPayment};
 ghost use Rattle.mk_reply.specs.declared.reply.Reply.TheVariants.{SettledAll};
 ghost use Rattle.mk_rules.specs.Answers.{settled_by_rule};
@@ -22,8 +21,10 @@ use crate::plain::{is_next, judge_words};
 use crate::refused::judge_refused;
 use mk_engine::TreeGraded;
 use mk_evidence::{joined, payment_evidence, refused_settlement};
+use mk_history::Entry;
 use mk_judge::{Judged, judge_cash};
-use mk_market::{Entry, Market};
+use mk_market::Market;
+use mk_record::Journal;
 use mk_reply::{Payment, Reply};
 use mk_semiring::{MinProd, SumProd};
 
@@ -76,13 +77,13 @@ fn tells_total<P: TreeGraded<SumProd>, A: TreeGraded<MinProd>>(
 }
 
 /// Whether there is one payment to each user, in the order of joining.
-fn are_to_users(history: &[Entry], payments: &[Payment]) -> bool
-    ensures { (result ≡ true) ↔ (map (λ p. p.user) payments.now ≡ users (changes history.now)) }
+fn are_to_users(history: &Journal, payments: &[Payment]) -> bool
+    ensures { (result ≡ true) ↔ (map (λ p. p.user) payments.now ≡ users history.now.history) }
 {
     let mut paid = 0;
-    for entry in history {
-        if let Entry::Join { user } = entry {
-            if paid >= payments.len() || payments[paid].user != *user {
+    for number in 0..history.length() {
+        if let Entry::Join { user } = history.entry(number) {
+            if paid >= payments.len() || payments[paid].user != user {
                 return false;
             }
             paid += 1;

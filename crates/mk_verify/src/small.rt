@@ -9,11 +9,12 @@ ghost use Rattle.mk_states.specs.Ratios.{ratio_at};
 ghost use Rattle.mk_exact.specs.Proper.{IsProper};
 ghost use Rattle.mk_exact.specs.Weight.{IsSmall, weight};
 ghost use Rattle.mk_walk.specs.Walked.{capped};
-ghost use Rattle.mk_record.specs.Entries.{changes, change_of};
+ghost use Rattle.mk_history.specs.Entries.{change_of};
 ghost use Rattle.mk_verify.specs.inner.Walks.{times, behind};
 
+use mk_history::Entry;
 use mk_net::{Network, Ratio};
-use mk_record::Entry;
+use mk_record::Journal;
 use mk_walk::{WalkTrade, holds, state_weight};
 
 /// What the weights of a small history are less than, together.
@@ -24,20 +25,20 @@ const MOST_VARIABLES: u32 = 3;
 
 /// Whether the weights of all states together, possible or not, are below `2^63`. Four variables
 /// weigh more than that from the start, so at most 4,096 states are walked.
-pub(crate) fn is_small(net: &Network, history: &[Entry]) -> bool
-    requires proper { IsProper net.now (changes history.now) }
-    ensures { (result ≡ true) ↔ IsSmall net.now (changes history.now) }
+pub(crate) fn is_small(net: &Network, history: &Journal) -> bool
+    requires proper { IsProper net.now history.now.history }
+    ensures { (result ≡ true) ↔ IsSmall net.now history.now.history }
 {
     net.variables() <= MOST_VARIABLES && total_behind(net, history, [0; 3], 0) < SMALL
 }
 
 /// The weights of the states that begin with the first `done` of these values, together, or the
 /// greatest u128 where they are more.
-fn total_behind(net: &Network, history: &[Entry], front: [u32; 3], done: u32) -> u128
+fn total_behind(net: &Network, history: &Journal, front: [u32; 3], done: u32) -> u128
     requires few { length net.now ≤ 3 }
     requires done { done ≤ length net.now }
     requires front { (k : ℕ) → k < done → slice_index front k < slice_index (sizes net.now) k }
-    ensures { result ≡ capped (behind (weight net.now (changes history.now))
+    ensures { result ≡ capped (behind (weight net.now history.now.history)
         (drop done (sizes net.now)) (take done front)) }
 {
     if done >= net.variables() {
@@ -53,20 +54,21 @@ fn total_behind(net: &Network, history: &[Entry], front: [u32; 3], done: u32) ->
 }
 
 /// The weight of a state, or the greatest u128 where it is more.
-fn weight_of(net: &Network, history: &[Entry], state: &[u32]) -> u128
+fn weight_of(net: &Network, history: &Journal, state: &[u32]) -> u128
     requires { IsState (sizes net.now) state.now }
-    ensures { result ≡ capped (weight net.now (changes history.now) state.now) }
+    ensures { result ≡ capped (weight net.now history.now.history state.now) }
 {
     let none: [WalkTrade; 0] = [];
     let mut weight = state_weight(net, &none, state);
-    for entry in history {
-        weight = weight.saturating_mul(times(entry, state) as u128);
+    for number in 0..history.length() {
+        let entry = history.entry(number);
+        weight = weight.saturating_mul(times(&entry, state) as u128);
     }
     weight
 }
 
 /// By how much a change multiplies the weight of a state.
-fn times(entry: &Entry, state: &[u32]) -> u64
+fn times(entry: &Entry<'_>, state: &[u32]) -> u64
     ensures { result ≡ times (change_of entry.now) state.now }
 {
     match entry {

@@ -28,7 +28,7 @@ use Rattle.mk_rules.specs.Refusals.{first_refusal}
 use Rattle.mk_rules.specs.Transcript.{OfCommand, after, market_after}
 use Rattle.mk_restore.specs.Laws.{IsSafe}
 use Rattle.mk_answers.specs.Open.{holding_of}
-use Rattle.mk_record.specs.Entries.{addition_of}
+use Rattle.mk_history.specs.Entries.{addition_of}
 use Rattle.mk_record.specs.Journals.{JournalOf}
 use Rattle.mk_market.specs.declared.adding.Regrown.{Regrown}
 use Rattle.mk_market.specs.Trading.{Trading}

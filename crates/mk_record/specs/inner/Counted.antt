@@ -1,12 +1,12 @@
--- What a journal counts, and its room.
-use Rattle.std.specs.Prelude.{◌≡◌, ℕ, ◌+◌, ◌≤◌, List, Bool, length, if◌then◌else◌}
+-- What a journal counts, its limits and its room.
+use Rattle.std.specs.Prelude.{◌≡◌, ℕ, ◌≤◌, List, Bool, length}
 use Rattle.std.specs.List.{count_by}
 use Rattle.mk_net.specs.declared.words.Pair.{Pair}
 use Rattle.mk_net.specs.Bounds.{max_users, max_variables, max_transfers, max_market_trades}
 use Rattle.mk_exact.specs.History.{Entry, users, trades, resolutions, additions}
 use Rattle.mk_exact.specs.History.{is_transfer, is_settled}
-use Rattle.mk_record.specs.Journals.{max_additions}
-use Rattle.mk_record.specs.declared.journal.Limits.{Limits}
+use Rattle.mk_history.specs.Histories.{HistoryOf, max_additions}
+use Rattle.mk_history.specs.declared.history.Limits.{Limits}
 
 -- each entry of a history is counted under one head, and each head is within its limit
 pub record IsCounted (H : List Entry) (limits : Limits) (known : List Pair)
@@ -17,8 +17,6 @@ pub record IsCounted (H : List Entry) (limits : Limits) (known : List Pair)
   pub transfers_made : moved ≡ count_by is_transfer H
   pub additions_made : added ≡ length (additions H)
   pub settlement : settled ≡ is_settled H
-  pub all_counted : length H ≡ joined + traded + moved + added + length known
-      + (if settled then 1 else 0)
   pub few_users : joined ≤ limits.users
   pub few_trades : traded ≤ limits.trades
   pub few_transfers : moved ≤ limits.transfers
@@ -28,8 +26,12 @@ pub record IsCounted (H : List Entry) (limits : Limits) (known : List Pair)
   pub users_at_most : limits.users ≤ max_users
   pub transfers_at_most : limits.transfers ≤ max_transfers
 
--- room for as many entries, and for as many known pairs, as there may be
-pub record HasRoom (limits : Limits) (entries known : ℕ) : Type 0 where
-  pub for_entries :
-      limits.trades + limits.transfers + limits.users + max_variables + max_additions + 1 ≤ entries
+-- the changes are those of a market with these limits
+pub record HasLimits (accepted : HistoryOf) (limits : Limits) : Type 0 where
+  pub same_trades : accepted.max_trades ≡ limits.trades
+  pub same_users : accepted.max_users ≡ limits.users
+  pub same_transfers : accepted.max_transfers ≡ limits.transfers
+
+-- room for as many known pairs as there may be
+pub record HasRoom (known : ℕ) : Type 0 where
   pub for_known : max_variables ≤ known

@@ -1,6 +1,6 @@
 -- What engines and assets are asked when they take one entry of a history.
-use Rattle.std.specs.Prelude.{◌≡◌, ℕ, ◌+◌, ◌<◌, ◌≤◌, [], ◌∷◌, length, is_some, true}
-use Rattle.std.specs.Prelude.{◌==◌, if◌then◌else◌}
+use Rattle.std.specs.Prelude.{◌≡◌, ℕ, ◌+◌, ◌<◌, ◌≤◌, List, [], ◌∷◌, length, is_some, true}
+use Rattle.std.specs.Prelude.{◌==◌, if◌then◌else◌, Option, Some, None}
 use Rattle.mk_net.specs.Asked.{ratio_pairs}
 use Rattle.mk_states.specs.OfNetwork.{IsPairOf, IsRatioOf}
 use Rattle.mk_exact.specs.History.{Entry, Deposit, Withdraw, Trade, Resolve}
@@ -9,6 +9,7 @@ use Rattle.mk_engine.specs.Meaning.{Meaning, with_known, max_factors}
 use Rattle.mk_assets.specs.declared.assets.Assets.{Assets}
 use Rattle.mk_assets.specs.Holdings.{Holding, Holds, max_bits, with_trade, with_deposit}
 use Rattle.mk_assets.specs.Holdings.{with_withdrawal}
+use Rattle.mk_replay.specs.Each.{HoldAll}
 
 -- one entry more can be taken: a trade has a home and room, and a resolution is of the network
 abbrev pub CanTakeBy : Meaning → Entry → Type 0
@@ -24,6 +25,13 @@ pub record CanTake {E : Type 0} (stands_for : E → Meaning → Type 0) (engine 
   pub stands : stands_for engine meaning
   pub of_tree : meaning.tree ≡ tree
   pub takes : CanTakeBy meaning e
+
+-- the user whose trade, deposit or withdrawal an entry is
+abbrev pub user_of : Entry → Option ℕ
+user_of (Deposit user bits) = Some user
+user_of (Withdraw user bits) = Some user
+user_of (Trade user ratio) = Some user
+user_of _ = None
 
 -- a user's holding after one more entry
 abbrev pub grown_holding : ℕ → Entry → Holding → Holding
@@ -51,3 +59,12 @@ pub record CanTakeOwn {E P : Type 0} (stands_for : E → Meaning → Type 0) (as
   pub of_tree : holding.meaning.tree ≡ tree
   pub takes : CanTakeBy holding.meaning e
   pub room : HasRoomFor u e holding
+
+-- each user's assets can take this entry
+pub record CanAllTake {E P : Type 0} (stands_for : E → Meaning → Type 0) (all : List (Assets E P))
+    (tree : GivenTree) (e : Entry) : Type 0 where
+  pub holding : ℕ → Holding
+  pub hold : HoldAll stands_for holding all
+  pub of_tree : (u : ℕ) → (holding u).meaning.tree ≡ tree
+  pub takes : (u : ℕ) → CanTakeBy (holding u).meaning e
+  pub room : (u : ℕ) → HasRoomFor u e (holding u)

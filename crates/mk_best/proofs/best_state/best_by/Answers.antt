@@ -1,4 +1,3 @@
-use Rattle.mk_record.specs.Entries.{changes}
 use Rattle.mk_best.specs.inner.Engines.{learned}
 use Rattle.mk_best.proofs.Shares.{few_learned}
 use Rattle.mk_best.proofs.BestIs.{best_of_given}
@@ -6,7 +5,7 @@ use Rattle.mk_best.proofs.best_state.best_by.Goals as goal
 
 pub best_left-requires : goal.best_left-requires
 best_left-requires g c =
-    let a = c.requires in let H = changes c.args.history.now in
+    let a = c.requires in let H = c.args.history.now.history in
     let given = c.args.given.now in
     record {
       history = learned H given;
@@ -19,7 +18,7 @@ best_left-requires g c =
 
 pub returns : goal.returns
 returns g c =
-    let a = c.requires in let net = c.args.net.now in let H = changes c.args.history.now in
+    let a = c.requires in let net = c.args.net.now in let H = c.args.history.now.history in
     let given = c.args.given.now in
     best_of_given net H given c.in_ok-found.found c.in_ok-sums.ensures.network a.history.proper
     (c.in_ok-found.ensures (learned H given) c.in_ok-sums.ensures.stands

@@ -34,8 +34,9 @@ returns-then-history-before-clause-kept g c n bytes records named held =
     c.apply-reply.result) c.lend.ensures c.apply-reply.ensures in
     let same : length c.apply-reply.new.self.standing.history
     ≡ length c.args.market.now.standing.history =
-    sym (as_told c.history.result.now _ c.history.ensures.same) ∙ c.if-history-before.true
-    ∙ as_told c.history-before.result.now _ c.history-before.ensures.same in
+    sym (as_told c.length.result _ _ c.length.ensures c.history.ensures.same)
+    ∙ c.if-history-before.true
+    ∙ as_told c.length-before.result _ _ c.length-before.ensures c.history-before.ensures.same in
     let none = none_made c.args.market.now c.apply-reply.new.self c.args.command.now
     c.apply-reply.result answered same in
     record {
@@ -60,8 +61,9 @@ returns-clause-ready g c =
     let next = next_revision c.args.market.now c.apply-reply.new.self c.args.command.now
     c.apply-reply.result answered
     (λ same. c.if-history-before.false
-    (as_told c.history.result.now _ c.history.ensures.same ∙ same
-    ∙ sym (as_told c.history-before.result.now _ c.history-before.ensures.same))) in
+    (as_told c.length.result _ _ c.length.ensures c.history.ensures.same ∙ same
+    ∙ sym (as_told c.length-before.result _ _ c.length-before.ensures
+    c.history-before.ensures.same))) in
     subst (λ (count : ℕ). IsReady (g.K.Disk.is_open c.keep_change.new.disk)
     (g.K.Disk.file c.keep_change.new.disk (g.K.Disk.open_name c.keep_change.new.disk))
     c.keep_change.new.store count) (sym next)
@@ -75,8 +77,9 @@ returns-clause-kept g c n bytes records named held =
     let one = one_made c.args.market.now c.apply-reply.new.self c.args.command.now
     c.apply-reply.result answered
     (λ same. c.if-history-before.false
-    (as_told c.history.result.now _ c.history.ensures.same ∙ same
-    ∙ sym (as_told c.history-before.result.now _ c.history-before.ensures.same))) in
+    (as_told c.length.result _ _ c.length.ensures c.history.ensures.same ∙ same
+    ∙ sym (as_told c.length-before.result _ _ c.length-before.ensures
+    c.history-before.ensures.same))) in
     record {
       reply = c.apply-reply.result;
       answered = answered;
@@ -101,8 +104,9 @@ returns-in_err-keep_change-clause-kept g c n bytes records named held =
     let one = one_made c.args.market.now c.apply-reply.new.self c.args.command.now
     c.apply-reply.result answered
     (λ same. c.if-history-before.false
-    (as_told c.history.result.now _ c.history.ensures.same ∙ same
-    ∙ sym (as_told c.history-before.result.now _ c.history-before.ensures.same))) in
+    (as_told c.length.result _ _ c.length.ensures c.history.ensures.same ∙ same
+    ∙ sym (as_told c.length-before.result _ _ c.length-before.ensures
+    c.history-before.ensures.same))) in
     let p = err_from_is_err_and c.from_residual.result c.from_residual.ensures.1 in
     rw p.1 (record {
       reply = c.apply-reply.result;

@@ -1,4 +1,3 @@
-use Rattle.mk_record.specs.Entries.{changes}
 use Rattle.mk_expect.proofs.Covered.{covers_all}
 use Rattle.mk_expect.proofs.cash.expect_by.Goals as goal
 
@@ -16,7 +15,7 @@ history_tally-tally-requires g c =
 
 pub returns : goal.returns
 returns g c =
-    covers_all c.args.net.now (changes c.args.history.now) c.args.points_per_bit c.args.user _ _
+    covers_all c.args.net.now c.args.history.now.history c.args.points_per_bit c.args.user _ _
     c.history_tally-tally.result c.requires.history.proper
     (c.history_tally-tally.ensures.adds c.args.net.now c.in_ok-engine.ensures.network
     c.in_ok-engine.ensures.stands)

@@ -1,7 +1,6 @@
 use Rattle.mk_states.specs.Events.{always}
 use Rattle.mk_exact.specs.Weight.{IsSmall, total}
 use Rattle.mk_beliefs.specs.Meanings.{weights_of}
-use Rattle.mk_record.specs.Entries.{changes}
 use Rattle.mk_answers.proofs.Homes.{nothing_at_root}
 use Rattle.mk_best.proofs.Shares.{left_in, in_absent}
 use Rattle.mk_expect.proofs.Covered.{some_bits, some_are_bits}
@@ -14,12 +13,12 @@ pub belief-requires-clause-held : goal.belief-requires-clause-held
 belief-requires-clause-held g c =
     let a = c.requires in let tree = c.args.tree.now in
     g.met.E.Engine.held_is_answered c.args.engine.now
-    (weights_of a.network tree (changes c.args.history.now)) 1 c.empty.result a.stands
+    (weights_of a.network tree c.args.history.now.history) 1 c.empty.result a.stands
     (nothing_at_root tree c.empty.result c.empty.ensures a.tree_of_it.linked.some)
 
 pub unreachable-requires : goal.unreachable-requires
 unreachable-requires g c =
-    let a = c.requires in let tree = c.args.tree.now in let H = changes c.args.history.now in
+    let a = c.requires in let tree = c.args.tree.now in let H = c.args.history.now.history in
     some_weighs a.network H a.legal a.placed.proper
     (in_absent c.belief.result (IsSmall a.network H) (total a.network H always) c.in_default.is
     (left_in a.network tree H a.legal a.placed.few_trades c.empty.result c.belief.result
@@ -27,7 +26,7 @@ unreachable-requires g c =
 
 pub entries_tally-requires : goal.entries_tally-requires
 entries_tally-requires g c =
-    let a = c.requires in let tree = c.args.tree.now in let H = changes c.args.history.now in
+    let a = c.requires in let tree = c.args.tree.now in let H = c.args.history.now.history in
     record {
       network = a.network;
       has = has_whole g.E.Engine.stands_for c.args.engine.now c.belief.new.self
@@ -40,7 +39,7 @@ entries_tally-requires g c =
 
 pub returns-clause-adds : goal.returns-clause-adds
 returns-clause-adds g c = λ network legal stands bits are.
-    let a = c.requires in let tree = c.args.tree.now in let H = changes c.args.history.now in
+    let a = c.requires in let tree = c.args.tree.now in let H = c.args.history.now.history in
     c.entries_tally.ensures network
     (has_whole g.E.Engine.stands_for c.args.engine.now c.belief.new.self c.belief.ensures.kept
     network tree H c.empty.result c.belief.result c.in-Present.whole c.empty.ensures
@@ -49,8 +48,8 @@ returns-clause-adds g c = λ network legal stands bits are.
 
 pub returns-clause-small : goal.returns-clause-small
 returns-clause-small g c =
-    let a = c.requires in let tree = c.args.tree.now in let H = changes c.args.history.now in
-    all_have_room a.network c.args.history.now some_bits c.args.user c.entries_tally.result
+    let a = c.requires in let tree = c.args.tree.now in let H = c.args.history.now.history in
+    all_have_room a.network H some_bits c.args.user c.entries_tally.result
     a.few_bits a.placed.few_trades
     (c.entries_tally.ensures a.network
     (has_whole g.E.Engine.stands_for c.args.engine.now c.belief.new.self c.belief.ensures.kept

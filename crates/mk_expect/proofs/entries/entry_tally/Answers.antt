@@ -2,8 +2,8 @@ use Rattle.std.proofs.Common.{ℕ, ◌*◌, ◌^◌, sym, subst, inl, inr}
 use Rattle.mk_net.specs.Trades.{trade_ratio}
 use Rattle.mk_states.specs.Events.{always}
 use Rattle.mk_exact.specs.Weight.{total}
-use Rattle.mk_record.specs.declared.entry.Entry.{Entry}
-use Rattle.mk_record.specs.Entries.{change_of}
+use Rattle.mk_history.specs.declared.entry.Entry.{Entry}
+use Rattle.mk_history.specs.Entries.{change_of}
 use Rattle.mk_expect.specs.inner.Added.{AddsEntry}
 use Rattle.mk_expect.specs.inner.Shares.{FitsEntry}
 use Rattle.mk_expect.proofs.Added.{deposit_adds, withdrawal_adds, other_adds, own_adds}

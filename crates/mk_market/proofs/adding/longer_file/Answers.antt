@@ -2,7 +2,7 @@ use Rattle.std.specs.Prelude.{ℕ, List, ◌==◌}
 use Rattle.std.specs.List.{list_any}
 use Rattle.std.proofs.Common.{sym, ap, ◌∙◌, subst}
 use Rattle.mk_net.specs.Zeros.{HasNoZeros}
-use Rattle.mk_record.specs.Entries.{addition_of}
+use Rattle.mk_history.specs.Entries.{addition_of}
 use Rattle.mk_market.specs.inner.Adding.{IsSetOf}
 use Rattle.mk_market.proofs.Following.{longer_market}
 use Rattle.mk_market.proofs.adding.longer_file.Goals as goal

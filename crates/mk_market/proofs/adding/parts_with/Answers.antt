@@ -1,6 +1,6 @@
 use Rattle.std.proofs.Common.{sym, ap, ◌∙◌, subst}
 use Rattle.mk_exact.specs.History.{Addition}
-use Rattle.mk_record.specs.Entries.{addition_of}
+use Rattle.mk_history.specs.Entries.{addition_of}
 use Rattle.mk_market.specs.inner.Adding.{CanFollow, IsLonger}
 use Rattle.mk_market.proofs.Following.{can_follow}
 use Rattle.mk_market.proofs.Regrowing.{few_bits, is_placed}

@@ -1,5 +1,5 @@
 use Rattle.std.proofs.Common.{◌≡◌, map}
-use Rattle.mk_record.specs.Entries.{ends}
+use Rattle.mk_history.specs.Entries.{ends}
 use Rattle.mk_market.proofs.Booked.{AreBookedBefore}
 use Rattle.mk_market.proofs.settling.book.Given as goal
 

@@ -1,6 +1,6 @@
 use Rattle.std.proofs.Common.{◌≡◌, map, take, vec_len, vec_capacity}
 use Rattle.mk_cash.specs.Dues.{due_payment}
-use Rattle.mk_record.specs.Entries.{ends}
+use Rattle.mk_history.specs.Entries.{ends}
 use Rattle.mk_replay.proofs.by_rule.pay_dues.Given as goal
 
 abbrev pub invariant-loop-due : goal.invariant-loop-due

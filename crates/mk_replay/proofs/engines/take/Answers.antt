@@ -3,8 +3,8 @@ use Rattle.mk_net.specs.Asked.{ratio_pairs}
 use Rattle.mk_net.specs.Trades.{trade_ratio}
 use Rattle.mk_tree.specs.Given.{GivenTree, home}
 use Rattle.mk_engine.specs.Meaning.{Meaning}
-use Rattle.mk_record.specs.declared.entry.Entry.{Entry}
-use Rattle.mk_record.specs.Entries.{change_of}
+use Rattle.mk_history.specs.declared.entry.Entry.{Entry}
+use Rattle.mk_history.specs.Entries.{change_of}
 use Rattle.mk_replay.specs.inner.Taking.{CanTakeBy}
 use Rattle.mk_replay.proofs.engines.take.Goals as goal
 

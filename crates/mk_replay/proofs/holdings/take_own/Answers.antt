@@ -4,8 +4,8 @@ use Rattle.mk_net.specs.Trades.{trade_ratio}
 use Rattle.mk_exact.specs.History as history
 use Rattle.mk_tree.specs.Given.{GivenTree, home}
 use Rattle.mk_assets.specs.Holdings.{with_first_known}
-use Rattle.mk_record.specs.declared.entry.Entry.{Entry}
-use Rattle.mk_record.specs.Entries.{change_of}
+use Rattle.mk_history.specs.declared.entry.Entry.{Entry}
+use Rattle.mk_history.specs.Entries.{change_of}
 use Rattle.mk_replay.specs.inner.Taking.{CanTakeBy}
 use Rattle.mk_replay.proofs.holdings.take_own.Goals as goal
 

@@ -1,15 +1,14 @@
 use Rattle.std.proofs.Common.{arith}
 use Rattle.std.proofs.lemmas.Bool.{leb-true}
-use Rattle.mk_record.specs.Entries.{changes}
 use Rattle.mk_verify.proofs.SmallWeights.{many_are_large}
 use Rattle.mk_verify.proofs.SmallWalk.{small_test}
 use Rattle.mk_verify.proofs.small.is_small.Goals as goal
 
 pub returns-then-variables-le-MOST_VARIABLES : goal.returns-then-variables-le-MOST_VARIABLES
-returns-then-variables-le-MOST_VARIABLES c = small_test c.args.net.now (changes c.args.history.now) c.total_behind.result c.total_behind.ensures
+returns-then-variables-le-MOST_VARIABLES c = small_test c.args.net.now c.args.history.now.history c.total_behind.result c.total_behind.ensures
 
 pub returns-else-variables-le-MOST_VARIABLES : goal.returns-else-variables-le-MOST_VARIABLES
 returns-else-variables-le-MOST_VARIABLES c = (
   λ h. absurd (omega (arith, c.if-variables-le-MOST_VARIABLES.false, leb-true c.variables.result 3 h)),
-  λ small. absurd (many_are_large c.args.net.now (changes c.args.history.now) c.variables.ensures.network c.requires.proper (omega (arith, c.if-variables-le-MOST_VARIABLES.false, c.variables.ensures.count)) small),
+  λ small. absurd (many_are_large c.args.net.now c.args.history.now.history c.variables.ensures.network c.requires.proper (omega (arith, c.if-variables-le-MOST_VARIABLES.false, c.variables.ensures.count)) small),
 )

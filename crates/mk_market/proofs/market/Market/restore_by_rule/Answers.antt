@@ -14,7 +14,7 @@ use Rattle.mk_rules.specs.Bounded.{FitPayment}
 use Rattle.mk_rules.proofs.Bounds.{limits_of}
 use Rattle.mk_rules.proofs.Follows.{rule_ends_fit}
 use Rattle.mk_file.specs.MarketOf.{market_of}
-use Rattle.mk_record.specs.Entries.{ends}
+use Rattle.mk_history.specs.Entries.{ends}
 use Rattle.mk_record.specs.Refused.{CanBeSettled}
 use Rattle.mk_replay.specs.Tills.{TillOf}
 use Rattle.mk_market.specs.Trading.{Trading}

@@ -4,13 +4,13 @@ use Rattle.std.proofs.lemmas.List.FromFn.{length-range_with_len}
 use Rattle.mk_states.specs.States.{numbers_below}
 use Rattle.mk_exact.specs.History.{users}
 use Rattle.mk_exact.specs.ByRule.{payment_by_rule}
-use Rattle.mk_record.specs.Entries.{changes, ends}
+use Rattle.mk_history.specs.Entries.{ends}
 use Rattle.mk_replay.specs.Tills.{TillOf}
 use Rattle.mk_replay.proofs.till.Till.pay_by_rule.Goals as goal
 
 pub invariant_of-self : goal.invariant_of-self
 invariant_of-self c =
-    let H = changes c.args.history.now in
+    let H = c.args.history.now.history in
     let kept = c.self.invariant in
     let dues = c.pay_by_rule.ensures.due_capacity ∙ c.clear.ensures.capacity in
     let paid = c.pay_by_rule.ensures.payment_capacity ∙ c.clear-2.ensures.capacity in

@@ -4,7 +4,6 @@ use Rattle.std.proofs.lemmas.List.{append-nil, length-map}
 use Rattle.mk_io.specs.Stream.{text, is_not_blank}
 use Rattle.mk_exact.specs.History.{Entry}
 use Rattle.mk_exact.specs.Market.{present}
-use Rattle.mk_record.specs.Entries.{change_of as entry_of_record}
 use Rattle.mk_restore.specs.Restoring.{change_of}
 use Rattle.mk_session.specs.Left.{records_of, LeavesSince}
 use Rattle.mk_session.specs.inner.Keeping.{IsSpoken, HoldsSince}
@@ -81,12 +80,10 @@ returns-else-history-before-clause-spoken g c = λ start here begun name bytes f
     let spoken : IsSpoken start m.standing (text line) new printed =
     subst (λ (l : List ℕ). IsSpoken start m.standing (text l) new printed) c.line.ensures
     (c.print_answer.ensures.spoken start here) in
-    let was : length c.history-before.result.now ≡ length m.standing.history =
-    sym (length-map c.history-before.result.now entry_of_record)
-    ∙ ap (λ (l : List Entry). length l) c.history-before.ensures.same in
-    let is : length c.history.result.now ≡ length new.history =
-    sym (length-map c.history.result.now entry_of_record)
-    ∙ ap (λ (l : List Entry). length l) c.history.ensures.same in
+    let was : c.length-before.result ≡ length m.standing.history =
+    c.length-before.ensures ∙ ap (λ (l : List Entry). length l) c.history-before.ensures.same in
+    let is : c.length.result ≡ length new.history =
+    c.length.ensures ∙ ap (λ (l : List Entry). length l) c.history.ensures.same in
     let holds = g.J.Keeper.holds c.args.self.now.keeper c.args.disk.now name bytes in
     let passes = g.J.Keeper.passes begun c.args.disk.now name bytes in
     let none = ap records_of (no_change (present start m.standing.history) m.standing new
@@ -109,12 +106,10 @@ returns-then-history-before-clause-spoken g c = λ start here begun name bytes f
     let spoken : IsSpoken start m.standing (text line) new printed =
     subst (λ (l : List ℕ). IsSpoken start m.standing (text l) new printed) c.line.ensures
     (c.print_answer.ensures.spoken start here) in
-    let was : length c.history-before.result.now ≡ length m.standing.history =
-    sym (length-map c.history-before.result.now entry_of_record)
-    ∙ ap (λ (l : List Entry). length l) c.history-before.ensures.same in
-    let is : length c.history.result.now ≡ length new.history =
-    sym (length-map c.history.result.now entry_of_record)
-    ∙ ap (λ (l : List Entry). length l) c.history.ensures.same in
+    let was : c.length-before.result ≡ length m.standing.history =
+    c.length-before.ensures ∙ ap (λ (l : List Entry). length l) c.history-before.ensures.same in
+    let is : c.length.result ≡ length new.history =
+    c.length.ensures ∙ ap (λ (l : List Entry). length l) c.history.ensures.same in
     let holds = g.J.Keeper.holds c.take_change.new.keeper c.take_change.new.disk name bytes in
     let leaves = g.J.Keeper.leaves c.take_change.new.disk name bytes in
     let passes = g.J.Keeper.passes begun c.take_change.new.disk name bytes in

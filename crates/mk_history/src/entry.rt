@@ -1,4 +1,4 @@
-//! Accepted changes.
+//! Accepted changes, as they are read.
 
 use arrayvec::ArrayVec;
 use mk_net::{Addition, Name, Pair, Ratio};
@@ -19,15 +19,15 @@ pub struct Payout {
     pub high: u64,
 }
 
-/// An accepted change of a market. Users are numbered by their joining, from 0, and a settlement
-/// pays them in this order.
+/// An accepted change of a market, as a history gives it: its longer parts are lent. Users are
+/// numbered by their joining, from 0, and a settlement pays them in this order.
 #[derive(Debug, Drop)]
-pub enum Entry {
+pub enum Entry<'a> {
     Join { user: Name },
     Deposit { user: u32, bits: u32 },
     Withdraw { user: u32, bits: u32 },
     Trade { user: u32, ratio: Ratio },
     Resolve { pair: Pair },
-    Settle { payments: Vec<Payout> },
-    Add { question: Box<AddedQuestion> },
+    Settle { payments: &'a [Payout] },
+    Add { question: &'a AddedQuestion },
 }

@@ -1,13 +1,14 @@
--- The entries of a journal as the accepted changes of a history.
-use Rattle.std.specs.Prelude.{ℕ, List, map}
+-- What is read of a history as the accepted changes that it is.
+use Rattle.std.specs.Prelude.{ℕ, map}
 use Rattle.mk_net.specs.Trades.{trade_ratio}
 use Rattle.mk_net.specs.Additions.{variable_of_addition}
 use Rattle.mk_exact.specs.History as history
-use Rattle.mk_record.specs.declared.entry.AddedQuestion.{AddedQuestion}
-use Rattle.mk_record.specs.declared.entry.Payout.{Payout}
-use Rattle.mk_record.specs.declared.entry.Entry.{Entry}
-use Rattle.mk_record.specs.declared.entry.Entry.TheVariants.{Join, Deposit, Withdraw, Trade, Resolve}
-use Rattle.mk_record.specs.declared.entry.Entry.TheVariants.{Settle, Add}
+use Rattle.mk_history.specs.declared.entry.AddedQuestion.{AddedQuestion}
+use Rattle.mk_history.specs.declared.entry.Payout.{Payout}
+use Rattle.mk_history.specs.declared.entry.Entry.{Entry}
+use Rattle.mk_history.specs.declared.entry.Entry.TheVariants.{Join, Deposit, Withdraw, Trade}
+use Rattle.mk_history.specs.declared.entry.Entry.TheVariants.{Resolve}
+use Rattle.mk_history.specs.declared.entry.Entry.TheVariants.{Settle, Add}
 
 -- a question that was added as an addition
 abbrev pub addition_of : AddedQuestion → history.Addition
@@ -28,9 +29,5 @@ change_of (Deposit user bits) = history.Deposit user bits
 change_of (Withdraw user bits) = history.Withdraw user bits
 change_of (Trade user ratio) = history.Trade user (trade_ratio ratio)
 change_of (Resolve pair) = history.Resolve pair
-change_of (Settle payments) = history.Settle (map ends payments.items)
-change_of (Add question) = history.Add (addition_of question.value)
-
--- entries as changes, in the same order
-abbrev pub changes : List Entry → List history.Entry
-changes entries = map change_of entries
+change_of (Settle payments) = history.Settle (map ends payments.now)
+change_of (Add question) = history.Add (addition_of question.now)

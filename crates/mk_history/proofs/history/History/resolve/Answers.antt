@@ -1,0 +1,18 @@
+use Rattle.mk_exact.specs.History as history
+use Rattle.mk_history.specs.inner.Stored.{lists_of}
+use Rattle.mk_history.proofs.Rooms.{room_for_one}
+use Rattle.mk_history.proofs.Added.{resolution_added}
+use Rattle.mk_history.proofs.history.History.resolve.Goals as goal
+
+pub push_reserved-requires : goal.push_reserved-requires
+push_reserved-requires c =
+    let h : _ = c.self.inside in
+    room_for_one (lists_of h) h.changes.items h.limits _ c.self.invariant.0 h.changes.ok.0 (history.Resolve c.args.pair) _ _ _ _ _
+    (rw (← c.self.view_is) at c.requires) c.self.invariant.1
+
+pub invariant_of-self : goal.invariant_of-self
+invariant_of-self c =
+    let h : _ = c.self.inside in
+    let added : _ = resolution_added (lists_of h) h.changes.items h.limits c.self.invariant.0 c.args.pair
+    (rw (← c.self.view_is) at c.requires) in
+    rw (c.push_reserved.ensures.items, c.push_reserved.ensures.capacity) (added.kept, c.self.invariant.1)
