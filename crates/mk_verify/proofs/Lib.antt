@@ -10,7 +10,6 @@ mod Paying
 mod Places
 mod Same
 mod Settled
-mod SmallWalk
 mod SmallWeights
 mod SpreadingJudged
 mod SpreadingLists

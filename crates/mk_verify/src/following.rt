@@ -18,13 +18,13 @@ ghost use Rattle.mk_verify.specs.inner.Walks.{LeavesWeights};
 
 use crate::known::Known;
 use crate::noting::note;
-use crate::small::is_small;
 use mk_command::CommandRef;
 use mk_engine::Engine;
 use mk_market::{Market, RestoreFault};
 use mk_net::NoMemory;
 use mk_reply::Reply;
 use mk_semiring::{MinProd, SumProd};
+use mk_small::is_small;
 use std::alloc::Global;
 
 /// Goes on behind an allowed reply to a command. Both engines have to suit the market with a

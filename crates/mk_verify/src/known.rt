@@ -9,13 +9,13 @@ ghost use Rattle.mk_quote.specs.Questions.{spread_in};
 ghost use Rattle.mk_reply.specs.Refusals.{given_in};
 ghost use Rattle.mk_verify.specs.inner.Givens.{quote_in};
 
-use crate::small::is_small;
 use mk_engine::Engine;
 use mk_market::Market;
 use mk_net::{Event, NoMemory, Question};
 use mk_quote::SpreadQuestion;
 use mk_reply::Intervals;
 use mk_semiring::{MinProd, SumProd};
+use mk_small::is_small;
 use std::alloc::Global;
 use std::marker::Model;
 

@@ -14,7 +14,6 @@ mod numbers_of_values;
 mod plain;
 mod refused;
 mod settlement;
-mod small;
 mod spreading;
 mod spreads;
 mod told;

@@ -1,18 +1,7 @@
--- How a change weighs on a state, and what the states behind a front weigh.
-use Rattle.std.specs.Prelude.{◌≡◌, ℕ, ◌++◌, List, Option, None, IfSome, sum_by}
-use Rattle.mk_states.specs.States.{states}
-use Rattle.mk_states.specs.Ratios.{ratio_at}
-use Rattle.mk_exact.specs.History.{Entry, Trade, trade_in, addition_in}
-
--- by how much a change multiplies the weight of a state
-abbrev pub times : Entry → List ℕ → ℕ
-times (Trade user ratio) s = ratio_at ratio s
-times _ s = 1
+-- Which changes weigh on no state.
+use Rattle.std.specs.Prelude.{◌≡◌, Option, None, IfSome}
+use Rattle.mk_exact.specs.History.{Entry, trade_in, addition_in}
 
 -- a change, if it is one, is no trade and adds no question, and leaves each weight as it was
 abbrev pub LeavesWeights : Option Entry → Type 0
 LeavesWeights change = IfSome change (λ e. (trade_in e ≡ None) × (addition_in e ≡ None))
-
--- what is weighed of the states that begin with a front, whose other variables have these sizes
-abbrev pub behind : (List ℕ → ℕ) → List ℕ → List ℕ → ℕ
-behind f sizes front = sum_by (λ s. f (front ++ s)) (states sizes)

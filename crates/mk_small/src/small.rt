@@ -10,7 +10,7 @@ ghost use Rattle.mk_exact.specs.Proper.{IsProper};
 ghost use Rattle.mk_exact.specs.Weight.{IsSmall, weight};
 ghost use Rattle.mk_walk.specs.Walked.{capped};
 ghost use Rattle.mk_history.specs.Entries.{change_of};
-ghost use Rattle.mk_verify.specs.inner.Walks.{times, behind};
+ghost use Rattle.mk_small.specs.Walks.{times, behind};
 
 use mk_history::Entry;
 use mk_net::{Network, Ratio};
@@ -25,7 +25,7 @@ const MOST_VARIABLES: u32 = 3;
 
 /// Whether the weights of all states together, possible or not, are below `2^63`. Four variables
 /// weigh more than that from the start, so at most 4,096 states are walked.
-pub(crate) fn is_small(net: &Network, history: &Journal) -> bool
+pub fn is_small(net: &Network, history: &Journal) -> bool
     requires proper { IsProper net.now history.now.history }
     ensures { (result ≡ true) ↔ IsSmall net.now history.now.history }
 {

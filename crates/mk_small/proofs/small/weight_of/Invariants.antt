@@ -1,7 +1,7 @@
 use Rattle.std.proofs.Common.{◌≡◌, take}
 use Rattle.mk_exact.specs.Weight.{weight}
 use Rattle.mk_walk.specs.Walked.{capped}
-use Rattle.mk_verify.proofs.small.weight_of.Given as goal
+use Rattle.mk_small.proofs.small.weight_of.Given as goal
 
 abbrev pub invariant-loop-number : goal.invariant-loop-number
 invariant-loop-number l =
