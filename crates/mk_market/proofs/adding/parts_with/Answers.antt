@@ -21,8 +21,8 @@ priced-requires-clause-placed g c =
     is_placed c.args.file.now c.in_ok-file.file (addition_of c.deref.result.now)
     c.in_ok-file.ensures c.args.journal.now.history c.requires.can.safe
 
-pub assets_of_each-requires-clause-placed : goal.assets_of_each-requires-clause-placed
-assets_of_each-requires-clause-placed g c =
+pub assets_of_each-requires-clause-history : goal.assets_of_each-requires-clause-history
+assets_of_each-requires-clause-history g c =
     is_placed c.args.file.now c.in_ok-file.file (addition_of c.deref.result.now)
     c.in_ok-file.ensures c.args.journal.now.history c.requires.can.safe
 
