@@ -28,14 +28,14 @@ keep_change-requires-clause-ready g c =
     c.history-before.ensures.safe in
     (revision c.args.market.now.standing.history, omega (arith, few, added), c.requires.ready)
 
-pub returns-then-history-before-clause-kept : goal.returns-then-history-before-clause-kept
-returns-then-history-before-clause-kept g c n bytes records named held =
+pub returns-then-length-before-clause-kept : goal.returns-then-length-before-clause-kept
+returns-then-length-before-clause-kept g c n bytes records named held =
     let answered = subst (λ (x : Command). IsAnswered c.args.market.now c.apply-reply.new.self x
     c.apply-reply.result) c.lend.ensures c.apply-reply.ensures in
     let same : length c.apply-reply.new.self.standing.history
     ≡ length c.args.market.now.standing.history =
     sym (as_told c.length.result _ _ c.length.ensures c.history.ensures.same)
-    ∙ c.if-history-before.true
+    ∙ c.if-length-before.true
     ∙ as_told c.length-before.result _ _ c.length-before.ensures c.history-before.ensures.same in
     let none = none_made c.args.market.now c.apply-reply.new.self c.args.command.now
     c.apply-reply.result answered same in
@@ -60,7 +60,7 @@ returns-clause-ready g c =
     c.history-before.ensures.safe in
     let next = next_revision c.args.market.now c.apply-reply.new.self c.args.command.now
     c.apply-reply.result answered
-    (λ same. c.if-history-before.false
+    (λ same. c.if-length-before.false
     (as_told c.length.result _ _ c.length.ensures c.history.ensures.same ∙ same
     ∙ sym (as_told c.length-before.result _ _ c.length-before.ensures
     c.history-before.ensures.same))) in
@@ -76,7 +76,7 @@ returns-clause-kept g c n bytes records named held =
     c.apply-reply.result) c.lend.ensures c.apply-reply.ensures in
     let one = one_made c.args.market.now c.apply-reply.new.self c.args.command.now
     c.apply-reply.result answered
-    (λ same. c.if-history-before.false
+    (λ same. c.if-length-before.false
     (as_told c.length.result _ _ c.length.ensures c.history.ensures.same ∙ same
     ∙ sym (as_told c.length-before.result _ _ c.length-before.ensures
     c.history-before.ensures.same))) in
@@ -103,7 +103,7 @@ returns-in_err-keep_change-clause-kept g c n bytes records named held =
     c.apply-reply.result) c.lend.ensures c.apply-reply.ensures in
     let one = one_made c.args.market.now c.apply-reply.new.self c.args.command.now
     c.apply-reply.result answered
-    (λ same. c.if-history-before.false
+    (λ same. c.if-length-before.false
     (as_told c.length.result _ _ c.length.ensures c.history.ensures.same ∙ same
     ∙ sym (as_told c.length-before.result _ _ c.length-before.ensures
     c.history-before.ensures.same))) in
@@ -122,8 +122,8 @@ returns-in_err-keep_change-clause-kept g c n bytes records named held =
       );
     })
 
-pub returns-then-history-before-clause-is_market : goal.returns-then-history-before-clause-is_market
-returns-then-history-before-clause-is_market g c = c.history.ensures.safe.legal
+pub returns-then-length-before-clause-is_market : goal.returns-then-length-before-clause-is_market
+returns-then-length-before-clause-is_market g c = c.history.ensures.safe.legal
 
 pub returns-in_err-keep_change-clause-is_market : goal.returns-in_err-keep_change-clause-is_market
 returns-in_err-keep_change-clause-is_market g c = c.history.ensures.safe.legal

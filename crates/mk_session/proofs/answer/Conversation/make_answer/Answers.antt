@@ -11,8 +11,8 @@ use Rattle.mk_session.proofs.Spoken.{answered_when_spoken, one_spoken, spared_si
 use Rattle.mk_session.proofs.Spoken.{one_record, text_of_line}
 use Rattle.mk_session.proofs.answer.Conversation.make_answer.Goals as goal
 
-pub returns-then-history-before-clause-answered : goal.returns-then-history-before-clause-answered
-returns-then-history-before-clause-answered g c = λ start here.
+pub returns-then-length-before-clause-answered : goal.returns-then-length-before-clause-answered
+returns-then-length-before-clause-answered g c = λ start here.
     let m = c.args.market.now in
     let line = c.args.self.now.lines.line in
     let new = c.print_answer.new.market.standing in
@@ -23,8 +23,8 @@ returns-then-history-before-clause-answered g c = λ start here.
     (c.print_answer.ensures.spoken start here) in
     answered_when_spoken start m.standing (text line) new printed busy spoken
 
-pub returns-else-history-before-clause-answered : goal.returns-else-history-before-clause-answered
-returns-else-history-before-clause-answered g c = λ start here.
+pub returns-else-length-before-clause-answered : goal.returns-else-length-before-clause-answered
+returns-else-length-before-clause-answered g c = λ start here.
     let m = c.args.market.now in
     let line = c.args.self.now.lines.line in
     let new = c.print_answer.new.market.standing in
@@ -70,8 +70,8 @@ returns-else-keeps-clause-spoken g c = λ start here begun name bytes first leas
           held,
     )
 
-pub returns-else-history-before-clause-spoken : goal.returns-else-history-before-clause-spoken
-returns-else-history-before-clause-spoken g c = λ start here begun name bytes first least all held.
+pub returns-else-length-before-clause-spoken : goal.returns-else-length-before-clause-spoken
+returns-else-length-before-clause-spoken g c = λ start here begun name bytes first least all held.
     let m = c.args.market.now in
     let line = c.args.self.now.lines.line in
     let new = c.print_answer.new.market.standing in
@@ -81,13 +81,13 @@ returns-else-history-before-clause-spoken g c = λ start here begun name bytes f
     subst (λ (l : List ℕ). IsSpoken start m.standing (text l) new printed) c.line.ensures
     (c.print_answer.ensures.spoken start here) in
     let was : c.length-before.result ≡ length m.standing.history =
-    c.length-before.ensures ∙ ap (λ (l : List Entry). length l) c.history-before.ensures.same in
+    c.length-before.ensures ∙ ap (λ (l : List Entry). length l) c.history.ensures.same in
     let is : c.length.result ≡ length new.history =
-    c.length.ensures ∙ ap (λ (l : List Entry). length l) c.history.ensures.same in
+    c.length.ensures ∙ ap (λ (l : List Entry). length l) c.history-then-keeps.ensures.same in
     let holds = g.J.Keeper.holds c.args.self.now.keeper c.args.disk.now name bytes in
     let passes = g.J.Keeper.passes begun c.args.disk.now name bytes in
     let none = ap records_of (no_change (present start m.standing.history) m.standing new
-    spoken.asked spoken.reply spoken.next (sym is ∙ c.if-history-before.false ∙ was)) in
+    spoken.asked spoken.reply spoken.next (sym is ∙ c.if-length-before.false ∙ was)) in
     one_spoken start m.standing (text line) new printed busy spoken
     (λ output records. (printed ≡ output) × HoldsSince holds passes first least (all ++ records)) (
       refl,
@@ -96,8 +96,8 @@ returns-else-history-before-clause-spoken g c = λ start here begun name bytes f
           (sym (append-nil all)) held),
     )
 
-pub returns-then-history-before-clause-spoken : goal.returns-then-history-before-clause-spoken
-returns-then-history-before-clause-spoken g c = λ start here begun name bytes first least all held.
+pub returns-then-length-before-clause-spoken : goal.returns-then-length-before-clause-spoken
+returns-then-length-before-clause-spoken g c = λ start here begun name bytes first least all held.
     let m = c.args.market.now in
     let line = c.args.self.now.lines.line in
     let new = c.print_answer.new.market.standing in
@@ -107,15 +107,15 @@ returns-then-history-before-clause-spoken g c = λ start here begun name bytes f
     subst (λ (l : List ℕ). IsSpoken start m.standing (text l) new printed) c.line.ensures
     (c.print_answer.ensures.spoken start here) in
     let was : c.length-before.result ≡ length m.standing.history =
-    c.length-before.ensures ∙ ap (λ (l : List Entry). length l) c.history-before.ensures.same in
+    c.length-before.ensures ∙ ap (λ (l : List Entry). length l) c.history.ensures.same in
     let is : c.length.result ≡ length new.history =
-    c.length.ensures ∙ ap (λ (l : List Entry). length l) c.history.ensures.same in
+    c.length.ensures ∙ ap (λ (l : List Entry). length l) c.history-then-keeps.ensures.same in
     let holds = g.J.Keeper.holds c.take_change.new.keeper c.take_change.new.disk name bytes in
     let leaves = g.J.Keeper.leaves c.take_change.new.disk name bytes in
     let passes = g.J.Keeper.passes begun c.take_change.new.disk name bytes in
     let said = c.take_change.result in
     let one = one_record (present start m.standing.history) m.standing new line spoken.asked
-    spoken.reply spoken.asks spoken.next (λ same. c.if-history-before.true (is ∙ same ∙ sym was)) in
+    spoken.reply spoken.asks spoken.next (λ same. c.if-length-before.true (is ∙ same ∙ sym was)) in
     let text_is = text_of_line spoken.reply c.as_bytes-printed.result.now
     (c.as_bytes-printed.ensures.value ∙ c.as_str.ensures.value ∙ spoken.printed) in
     let same = ap₂ (λ (l t : List ℕ). (l ++ 10 ∷ t) ∷ []) c.line-line.ensures text_is ∙ sym one in
