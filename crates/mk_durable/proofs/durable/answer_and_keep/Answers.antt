@@ -23,9 +23,9 @@ apply-reply-requires-clause-assets g c =
 pub keep_change-requires-clause-ready : goal.keep_change-requires-clause-ready
 keep_change-requires-clause-ready g c =
     let few = few_changes c.args.market.now.market c.args.market.now.standing.history
-    c.history-before.ensures.safe in
+    c.history.ensures.safe in
     let added = few_additions c.args.market.now.market c.args.market.now.standing.history
-    c.history-before.ensures.safe in
+    c.history.ensures.safe in
     (revision c.args.market.now.standing.history, omega (arith, few, added), c.requires.ready)
 
 pub returns-then-length-before-clause-kept : goal.returns-then-length-before-clause-kept
@@ -34,9 +34,9 @@ returns-then-length-before-clause-kept g c n bytes records named held =
     c.apply-reply.result) c.lend.ensures c.apply-reply.ensures in
     let same : length c.apply-reply.new.self.standing.history
     ≡ length c.args.market.now.standing.history =
-    sym (as_told c.length.result _ _ c.length.ensures c.history.ensures.same)
+    sym (as_told c.length.result _ _ c.length.ensures c.history-2.ensures.same)
     ∙ c.if-length-before.true
-    ∙ as_told c.length-before.result _ _ c.length-before.ensures c.history-before.ensures.same in
+    ∙ as_told c.length-before.result _ _ c.length-before.ensures c.history.ensures.same in
     let none = none_made c.args.market.now c.apply-reply.new.self c.args.command.now
     c.apply-reply.result answered same in
     record {
@@ -55,15 +55,15 @@ returns-clause-ready g c =
     let answered = subst (λ (x : Command). IsAnswered c.args.market.now c.apply-reply.new.self x
     c.apply-reply.result) c.lend.ensures c.apply-reply.ensures in
     let few = few_changes c.args.market.now.market c.args.market.now.standing.history
-    c.history-before.ensures.safe in
+    c.history.ensures.safe in
     let added = few_additions c.args.market.now.market c.args.market.now.standing.history
-    c.history-before.ensures.safe in
+    c.history.ensures.safe in
     let next = next_revision c.args.market.now c.apply-reply.new.self c.args.command.now
     c.apply-reply.result answered
     (λ same. c.if-length-before.false
-    (as_told c.length.result _ _ c.length.ensures c.history.ensures.same ∙ same
+    (as_told c.length.result _ _ c.length.ensures c.history-2.ensures.same ∙ same
     ∙ sym (as_told c.length-before.result _ _ c.length-before.ensures
-    c.history-before.ensures.same))) in
+    c.history.ensures.same))) in
     subst (λ (count : ℕ). IsReady (g.K.Disk.is_open c.keep_change.new.disk)
     (g.K.Disk.file c.keep_change.new.disk (g.K.Disk.open_name c.keep_change.new.disk))
     c.keep_change.new.store count) (sym next)
@@ -77,9 +77,9 @@ returns-clause-kept g c n bytes records named held =
     let one = one_made c.args.market.now c.apply-reply.new.self c.args.command.now
     c.apply-reply.result answered
     (λ same. c.if-length-before.false
-    (as_told c.length.result _ _ c.length.ensures c.history.ensures.same ∙ same
+    (as_told c.length.result _ _ c.length.ensures c.history-2.ensures.same ∙ same
     ∙ sym (as_told c.length-before.result _ _ c.length-before.ensures
-    c.history-before.ensures.same))) in
+    c.history.ensures.same))) in
     record {
       reply = c.apply-reply.result;
       answered = answered;
@@ -104,9 +104,9 @@ returns-in_err-keep_change-clause-kept g c n bytes records named held =
     let one = one_made c.args.market.now c.apply-reply.new.self c.args.command.now
     c.apply-reply.result answered
     (λ same. c.if-length-before.false
-    (as_told c.length.result _ _ c.length.ensures c.history.ensures.same ∙ same
+    (as_told c.length.result _ _ c.length.ensures c.history-2.ensures.same ∙ same
     ∙ sym (as_told c.length-before.result _ _ c.length-before.ensures
-    c.history-before.ensures.same))) in
+    c.history.ensures.same))) in
     let p = err_from_is_err_and c.from_residual.result c.from_residual.ensures.1 in
     rw p.1 (record {
       reply = c.apply-reply.result;
@@ -123,10 +123,10 @@ returns-in_err-keep_change-clause-kept g c n bytes records named held =
     })
 
 pub returns-then-length-before-clause-is_market : goal.returns-then-length-before-clause-is_market
-returns-then-length-before-clause-is_market g c = c.history.ensures.safe.legal
+returns-then-length-before-clause-is_market g c = c.history-2.ensures.safe.legal
 
 pub returns-in_err-keep_change-clause-is_market : goal.returns-in_err-keep_change-clause-is_market
-returns-in_err-keep_change-clause-is_market g c = c.history.ensures.safe.legal
+returns-in_err-keep_change-clause-is_market g c = c.history-2.ensures.safe.legal
 
 pub returns-clause-is_market : goal.returns-clause-is_market
-returns-clause-is_market g c = c.history.ensures.safe.legal
+returns-clause-is_market g c = c.history-2.ensures.safe.legal
