@@ -16,7 +16,7 @@ use Rattle.mk_durable.proofs.opening.resume.Goals as goal
 
 pub overflow_add-result : goal.overflow_add-result
 overflow_add-result g c =
-    let size : length c.revision-count.result ≡ length c.restore_all.new.market.standing.history =
+    let size : c.revision-count.result ≡ length c.restore_all.new.market.standing.history =
     as_told c.revision-count.result _ _ c.revision-count.ensures c.history.ensures.same in
     let few = few_changes c.restore_all.new.market.market
     c.restore_all.new.market.standing.history c.history.ensures.safe in
@@ -26,7 +26,7 @@ overflow_add-result g c =
 
 pub returns-in-Gate-clause-few : goal.returns-in-Gate-clause-few
 returns-in-Gate-clause-few g c =
-    let size : length c.revision-count.result ≡ length c.restore_all.new.market.standing.history =
+    let size : c.revision-count.result ≡ length c.restore_all.new.market.standing.history =
     as_told c.revision-count.result _ _ c.revision-count.ensures c.history.ensures.same in
     let few = few_changes c.restore_all.new.market.market
     c.restore_all.new.market.standing.history c.history.ensures.safe in
@@ -51,7 +51,7 @@ returns-in_err-restore_all-clause-refused g c n bytes f named is told =
 
 pub returns-in-Gate-clause-resumed : goal.returns-in-Gate-clause-resumed
 returns-in-Gate-clause-resumed g c n bytes f named is told =
-    let size : length c.revision-count.result ≡ length c.restore_all.new.market.standing.history =
+    let size : c.revision-count.result ≡ length c.restore_all.new.market.standing.history =
     as_told c.revision-count.result _ _ c.revision-count.ensures c.history.ensures.same in
     let market = c.args.market.now.market in
     let now = c.restore_all.new.market.standing.history in
@@ -60,12 +60,12 @@ returns-in-Gate-clause-resumed g c n bytes f named is told =
     found.records.items c.deref.result.now
     (ap (λ (s : Standing). s.history) c.requires.opening) c.deref.ensures.value
     (c.in_ok-restore_all.ensures.taken market (at_first c.args.market.now c.requires.opening)) in
-    let number : length c.revision-count.result ≡ length (contents found.records.items) =
+    let number : c.revision-count.result ≡ length (contents found.records.items) =
     size ∙ as_many market now found.records.items taken
     ∙ sym (length-map found.records.items (λ (v : _). v.items)) in
     subst (λ (store : StoreOf). IsResumed market bytes f now
     (g.K.Disk.file c.open_store.new.disk n) (g.K.Disk.may_leave c.open_store.new.disk n) store
-    (length c.revision-count.result)) (sym c.new.ensures) (record {
+    c.revision-count.result) (sym c.new.ensures) (record {
       records = contents found.records.items;
       gives = record {
         stands_for = rw c.in-Gate.is at (c.in_ok-found.ensures.stands n bytes f named is told);
@@ -81,7 +81,7 @@ returns-in-Gate-clause-resumed g c n bytes f named is told =
 
 pub returns-in-Gate-clause-ready : goal.returns-in-Gate-clause-ready
 returns-in-Gate-clause-ready g c =
-    let size : length c.revision-count.result ≡ length c.restore_all.new.market.standing.history =
+    let size : c.revision-count.result ≡ length c.restore_all.new.market.standing.history =
     as_told c.revision-count.result _ _ c.revision-count.ensures c.history.ensures.same in
     let market = c.args.market.now.market in
     let now = c.restore_all.new.market.standing.history in
@@ -90,12 +90,12 @@ returns-in-Gate-clause-ready g c =
     found.records.items c.deref.result.now
     (ap (λ (s : Standing). s.history) c.requires.opening) c.deref.ensures.value
     (c.in_ok-restore_all.ensures.taken market (at_first c.args.market.now c.requires.opening)) in
-    let number : length c.revision-count.result ≡ length found.records.items =
+    let number : c.revision-count.result ≡ length found.records.items =
     size ∙ as_many market now found.records.items taken in
     let near = rw c.in-Gate.is at c.in_ok-found.ensures.near in
     subst (λ (store : StoreOf). IsReady (g.K.Disk.is_open c.open_store.new.disk)
     (g.K.Disk.file c.open_store.new.disk (g.K.Disk.open_name c.open_store.new.disk)) store
-    (length c.revision-count.result)) (sym c.new.ensures) (record {
+    c.revision-count.result) (sym c.new.ensures) (record {
       open_file = subst IsTrue (sym c.open_store.ensures.stays) c.requires.is_open;
       place = subst (λ (name : List ℕ). IfSome (g.K.Disk.file c.open_store.new.disk name)
           (λ f. c.in-Gate.gate < length f)) (sym c.open_store.ensures.stays_name)
@@ -105,7 +105,7 @@ returns-in-Gate-clause-ready g c =
 
 pub returns-in-Malformed-clause-refused : goal.returns-in-Malformed-clause-refused
 returns-in-Malformed-clause-refused g c n bytes f named is told =
-    let size : length c.revision-count.result ≡ length c.restore_all.new.market.standing.history =
+    let size : c.revision-count.result ≡ length c.restore_all.new.market.standing.history =
     as_told c.revision-count.result _ _ c.revision-count.ensures c.history.ensures.same in
     let market = c.args.market.now.market in
     let now = c.restore_all.new.market.standing.history in
@@ -114,7 +114,7 @@ returns-in-Malformed-clause-refused g c n bytes f named is told =
     found.records.items c.deref.result.now
     (ap (λ (s : Standing). s.history) c.requires.opening) c.deref.ensures.value
     (c.in_ok-restore_all.ensures.taken market (at_first c.args.market.now c.requires.opening)) in
-    let number : length c.revision-count.result ≡ length (contents found.records.items) =
+    let number : c.revision-count.result ≡ length (contents found.records.items) =
     size ∙ as_many market now found.records.items taken
     ∙ sym (length-map found.records.items (λ (v : _). v.items)) in
     inl (record {
