@@ -20,7 +20,8 @@ SuitsLonger suits market add = (tree : GivenTree)
 
 -- an engine suits the market after a command: a question that the command adds, and that nothing
 -- refuses, is the one thing that asks for it
-abbrev pub SuitsNext : (List Variable → GivenTree → Type 0) → Trading → Command → Type 0
+abbrev pub SuitsNext : {Own : Type 0} → (List Variable → GivenTree → Type 0) → Trading Own → Command
+    → Type 0
 SuitsNext suits now command = (add : AddText) → command ≡ Add add → IsAddText add
     → first_refusal now.market now.standing.history (Add add) ≡ None
     → SuitsLonger suits now.market add

@@ -6,3 +6,4 @@ pub mod Stopped
 pub mod Answering
 pub mod Restored
 pub mod Adding
+pub mod Apart

@@ -3,6 +3,7 @@
 ghost use Rattle.std.specs.Prelude.{◌≡◌, ◌<◌, length};
 ghost use Rattle.mk_answers.specs.Open.{IsOpen, holding_of};
 ghost use Rattle.mk_record.specs.Members.{names_of, quotes_of};
+ghost use Rattle.mk_market.specs.inner.Apart.{OwnApart};
 ghost use Rattle.mk_market.specs.inner.Keeping.{AreHeld};
 ghost use Rattle.mk_market.specs.inner.Quoting.{OwnsAt};
 
@@ -25,6 +26,7 @@ pub fn learn<A: Engine<MinProd>>(
     ensures learnt { OwnsAt A.stands_for users.new user (holding_of file.now.net file.now.tree journal.now.history user) }
     ensures held { AreHeld A.stands_for file.now.net file.now.tree journal.now.history users.new }
     ensures names { names_of users.new ≡ names_of users.old }
+    ensures apart { OwnApart user users.old users.new }
     ensures quotes { quotes_of users.new ≡ quotes_of users.old }
 {
     users.assets(user).learn(&file.tree, journal.known());

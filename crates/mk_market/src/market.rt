@@ -36,10 +36,12 @@ impl<P: Engine<SumProd>, A: Engine<MinProd>> Model for Market<P, A> {
     ghost use Rattle.mk_market.specs.Trading.{Trading};
     ghost use Rattle.mk_market.specs.inner.Keeping.{IsKept, standing_of};
     ghost use Rattle.mk_file.specs.MarketOf.{market_of};
+    ghost use Rattle.mk_assets.specs.declared.assets.Assets.{Assets};
+    ghost use Rattle.mk_record.specs.Members.{assets_of};
 
-    ghost Value = { Trading };
+    ghost Value = { Trading (Assets A A.Plan) };
 
-    ghost view = { λ m. record { market = market_of m.file; standing = standing_of m.journal m.users; accounts = m.ledger.accounts } };
+    ghost view = { λ m. record { market = market_of m.file; standing = standing_of m.journal m.users; accounts = m.ledger.accounts; assets = assets_of m.users } };
 
     ghost invariant = { λ m. IsKept P.stands_for A.stands_for A.plan_for m.file m.prices m.rows m.plan m.users m.ledger m.journal m.payments m.till };
 }

@@ -26,7 +26,7 @@ impl<P: Engine<SumProd>, A: Engine<MinProd>> Market<P, A> {
         requires prices { P.suits file.net file.tree }
         requires assets { A.suits file.net file.tree }
         ensures opened { IfOk result (λ market. market ≡ record
-            { market = market_of file; standing = opening; accounts = [] }) }
+            { market = market_of file; standing = opening; accounts = []; assets = [] }) }
         ensures is_market { IfOk result (λ _. IsMarket (market_of file)) }
     {
         let prices = P::plan(alloc, &file.net, &file.tree)?;
@@ -46,7 +46,7 @@ impl<P: Engine<SumProd>, A: Engine<MinProd>> Market<P, A> {
         requires prices { P.plan_for prices.now file.net file.tree }
         requires assets { A.plan_for assets file.net file.tree }
         ensures opened { IfOk result (λ market. market ≡ record
-            { market = market_of file; standing = opening; accounts = [] }) }
+            { market = market_of file; standing = opening; accounts = []; assets = [] }) }
         ensures is_market { IfOk result (λ _. IsMarket (market_of file)) }
     {
         let prices = weighed::<SumProd, P>(alloc, &file, prices)?;

@@ -9,6 +9,7 @@ ghost use Rattle.mk_quote.specs.declared.quote.Quote.{Quote as Held};
 ghost use Rattle.mk_quote.specs.Quotes.{IsFor};
 ghost use Rattle.mk_answers.specs.Open.{CanBeAnswered};
 ghost use Rattle.mk_record.specs.Members.{names_of, quotes_of};
+ghost use Rattle.mk_market.specs.inner.Apart.{OwnApart};
 ghost use Rattle.mk_market.specs.inner.Keeping.{AreHeld, AreKeptQuotes};
 ghost use Rattle.mk_market.specs.inner.Quoting.{AreInUse, IsQuoteOf};
 ghost use Rattle.mk_market.specs.inner.Stopped.{IsDecidedBy};
@@ -40,6 +41,7 @@ pub(crate) fn fresh_quote<P: Engine<SumProd>, A: Engine<MinProd>>(
     ensures prices { (m : Meaning) → P.stands_for prices.old m → P.stands_for prices.new m }
     ensures held { AreHeld A.stands_for file.now.net file.now.tree journal.now.history users.new }
     ensures names { names_of users.new ≡ names_of users.old }
+    ensures apart { OwnApart request.now.user users.old users.new }
     ensures quotes { quotes_of users.new ≡ quotes_of users.old }
     ensures quote { MatchResult result (λ quote. IsQuoteOf file.now.net file.now.tree
         journal.now.history request.now.user request.now.question quote)
@@ -95,6 +97,7 @@ pub(crate) fn present_quote<P: Engine<SumProd>, A: Engine<MinProd>>(
     ensures prices { (m : Meaning) → P.stands_for prices.old m → P.stands_for prices.new m }
     ensures held { AreHeld A.stands_for file.now.net file.now.tree journal.now.history users.new }
     ensures names { names_of users.new ≡ names_of users.old }
+    ensures apart { OwnApart request.now.user users.old users.new }
     ensures quotes { quotes_of users.new ≡ quotes_of users.old }
     ensures quote { MatchResult result (λ quote. IsQuoteOf file.now.net file.now.tree
         journal.now.history request.now.user request.now.question quote)

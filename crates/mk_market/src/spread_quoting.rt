@@ -12,6 +12,7 @@ ghost use Rattle.mk_quote.specs.Questions.{spread_in};
 ghost use Rattle.mk_quote.specs.Spreads.{sides_of, IsSpreadFor};
 ghost use Rattle.mk_answers.specs.Open.{CanBeSpreadHere};
 ghost use Rattle.mk_record.specs.Members.{names_of, quotes_of};
+ghost use Rattle.mk_market.specs.inner.Apart.{OwnApart};
 ghost use Rattle.mk_market.specs.inner.Keeping.{AreHeld, AreKeptQuotes};
 ghost use Rattle.mk_market.specs.inner.Quoting.{AreInUse, IsSpreadQuoteOf, IsInside, IsStopped, IsTaken, IsTurnedDown};
 ghost use Rattle.mk_market.specs.inner.Stopped.{IsSpreadDecidedBy};
@@ -44,6 +45,7 @@ pub(crate) fn fresh_spread_quote<P: Engine<SumProd>, A: Engine<MinProd>>(
     ensures prices { (m : Meaning) → P.stands_for prices.old m → P.stands_for prices.new m }
     ensures held { AreHeld A.stands_for file.now.net file.now.tree journal.now.history users.new }
     ensures names { names_of users.new ≡ names_of users.old }
+    ensures apart { OwnApart request.now.user users.old users.new }
     ensures quotes { quotes_of users.new ≡ quotes_of users.old }
     ensures quote { MatchResult result (λ quote. IsSpreadQuoteOf file.now.net file.now.tree
         journal.now.history request.now.user (spread_in request.now.question) quote)
@@ -127,6 +129,7 @@ pub(crate) fn judge_spread<P: Engine<SumProd>, A: Engine<MinProd>>(
     ensures prices { (m : Meaning) → P.stands_for prices.old m → P.stands_for prices.new m }
     ensures held { AreHeld A.stands_for file.now.net file.now.tree journal.now.history users.new }
     ensures names { names_of users.new ≡ names_of users.old }
+    ensures apart { OwnApart request.now.user users.old users.new }
     ensures judged { MatchResult result
         (λ units. IsTaken file.now.net file.now.tree journal.now.history request.now.user (spread_in request.now.question) (quotes_of users.old) (quotes_of users.new) shares.now units.items)
         (λ why. IsTurnedDown file.now.net file.now.tree journal.now.history request.now.user (spread_in request.now.question) (quotes_of users.old) (quotes_of users.new) shares.now why) }

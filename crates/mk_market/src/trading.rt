@@ -13,6 +13,7 @@ ghost use Rattle.mk_tree.specs.Given.{GivenTree};
 ghost use Rattle.mk_engine.specs.Meaning.{Meaning, RatioOf, with_factor};
 ghost use Rattle.mk_quote.specs.Questions.{spread_in};
 ghost use Rattle.mk_record.specs.Members.{names_of, quotes_of};
+ghost use Rattle.mk_market.specs.inner.Apart.{OwnApart};
 ghost use Rattle.mk_market.specs.inner.Keeping.{AreHeld, TakesAsMuch};
 ghost use Rattle.mk_market.specs.inner.Quoting.{CanBeMade};
 
@@ -70,6 +71,7 @@ pub(crate) fn trade<P: Engine<SumProd>, A: Engine<MinProd>>(
     ensures held { (network : List Variable) (tree : GivenTree) → AreHeld A.stands_for network tree journal.old.history users.old
         → AreHeld A.stands_for network tree (journal.old.history ++ Trade user (trade_ratio ratio) ∷ []) users.new }
     ensures names { names_of users.new ≡ names_of users.old }
+    ensures apart { OwnApart user users.old users.new }
     ensures quotes { quotes_of users.new ≡ quotes_of users.old }
 {
     prices.multiply(home, &ratio);

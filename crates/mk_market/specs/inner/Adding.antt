@@ -99,10 +99,12 @@ module _ {P A E Plan : Type 0} (weights_stand : P → Meaning → Type 0)
     pub one_each : length parts.assets.items ≡ length (users H)
     pub held : HoldEach gains_stand parts.file H parts.assets.items
 
--- a market has the question, by the next change, and nothing was paid
-pub record HasGrown (old new : Trading) (add : AddText) : Type 0 where
-  pub market : new.market ≡ market_after old.market old.standing (OfCommand (Add add))
-      (Added add.variable (revision old.standing.history + 1))
-  pub next : new.standing ≡ after old.market old.standing (OfCommand (Add add))
-      (Added add.variable (revision old.standing.history + 1))
-  pub accounts : new.accounts ≡ old.accounts
+-- a market has the question, by the next change, nothing was paid, and each user owns something
+module _ {Own : Type 0} where
+  pub record HasGrown (old new : Trading Own) (add : AddText) : Type 0 where
+    pub market : new.market ≡ market_after old.market old.standing (OfCommand (Add add))
+        (Added add.variable (revision old.standing.history + 1))
+    pub next : new.standing ≡ after old.market old.standing (OfCommand (Add add))
+        (Added add.variable (revision old.standing.history + 1))
+    pub accounts : new.accounts ≡ old.accounts
+    pub one_each : length new.assets ≡ length (users new.standing.history)
