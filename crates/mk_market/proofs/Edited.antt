@@ -10,7 +10,7 @@ use Rattle.std.proofs.lemmas.Option.{slice_get-map}
 use Rattle.mk_net.specs.declared.words.QuestionText.{QuestionText}
 use Rattle.mk_net.specs.Network.{Variable}
 use Rattle.mk_net.specs.Asked.{Asked, IsUnits}
-use Rattle.mk_exact.specs.History.{Entry, Trade, revision}
+use Rattle.mk_exact.specs.History.{Entry, Trade, users, revision}
 use Rattle.mk_exact.specs.Limits.{Inside}
 use Rattle.mk_exact.specs.Sides.{AreRightLimits, IsFairPair, ratio_in}
 use Rattle.mk_states.specs.Events.{holds, with_target, without_target}
@@ -52,6 +52,7 @@ use Rattle.mk_market.specs.Trading.{Trading, IsAnswered}
 use Rattle.mk_market.specs.inner.Answering.{IsAnsweredBy}
 use Rattle.mk_market.specs.inner.Keeping.{quoted, standing_of, IsKeptQuote, IsKept}
 use Rattle.mk_market.specs.inner.Quoting.{IsQuoteOf}
+use Rattle.mk_market.proofs.Apart.{EachOwns, AreApart, left_alone, each_owns, each_owns_then, others_left}
 use Rattle.mk_market.proofs.Growing.{is_open}
 use Rattle.mk_market.proofs.Quotes.{trading, AreQuoted, quote_said, standing_quoted}
 use Rattle.mk_market.proofs.Replies.{answer_allowed, refusal_allowed, none_appended, nothing_added}
@@ -64,25 +65,27 @@ use Rattle.mk_replay.specs.Tills.{TillOf}
 -- ---- a refusal
 
 -- an edit that a refusal of the table meets leaves the standing
-refused_answered : (old : Trading) (name : List ℕ) (q : QuestionText) (X : ℕ) (seen : Option ℕ) (why : Refusal)
+refused_answered : {Own : Type 0} → (old : Trading Own) → EachOwns old → (name : List ℕ) (q : QuestionText) (X : ℕ) (seen : Option ℕ) (why : Refusal)
     → Some why ≡ first_refusal old.market old.standing.history (Edit name q X seen) → IsAnswered old old (Edit name q X seen) (Refused why)
-refused_answered old name q X seen why e = record {
+refused_answered old owns name q X seen why e = record {
   market = refl;
   allowed = λ sound. refusal_allowed old.market old.standing (Edit name q X seen) why e;
   next = none_appended old.market old.standing (Edit name q X seen) (Refused why) refl
       (edit_refused old.market old.standing.history old.standing.quotes name q X seen why (sym e));
   paid = λ u. refl;
+  one_each = owns;
+  others = left_alone old old (Edit name q X seen) refl;
 }
 
-pub edit_refused_answered : {F : Type 0} → (tell : F → Reply) (old known : Trading)
-    → known ≡ old → (name : List ℕ) (q : QuestionText) (X : ℕ) (seen : Option ℕ) (why : Refusal)
+pub edit_refused_answered : {Own F : Type 0} → (tell : F → Reply) (old known : Trading Own)
+    → known ≡ old → EachOwns known → (name : List ℕ) (q : QuestionText) (X : ℕ) (seen : Option ℕ) (why : Refusal)
     (result : Result F Refusal) → IsErrAnd result (λ e. e ≡ why)
     → Some why ≡ first_refusal known.market known.standing.history (Edit name q X seen)
     → IsAnsweredBy old old (Edit name q X seen) result tell
-edit_refused_answered tell old known same name q X seen why (Ok found) e refusal = absurd e
-edit_refused_answered tell old known same name q X seen why (Err found) e refusal =
+edit_refused_answered tell old known same owns name q X seen why (Ok found) e refusal = absurd e
+edit_refused_answered {Own} tell old known same owns name q X seen why (Err found) e refusal =
     subst (λ (w : Refusal). IsAnswered old old (Edit name q X seen) (Refused w)) (sym e)
-    (subst (λ (t : Trading). IsAnswered t t (Edit name q X seen) (Refused why)) same (refused_answered known name q X seen why refusal))
+    (subst (λ (t : Trading Own). IsAnswered t t (Edit name q X seen) (Refused why)) same (refused_answered known owns name q X seen why refusal))
 
 -- ---- a quote
 
@@ -212,7 +215,8 @@ module _ {P A Plan : Type 0} (weights_stand : P → Meaning → Type 0) (gains_s
     (payments : Option (List Payment)) (till : Option TillOf) (kept : IsKept weights_stand gains_stand plan_for file prices rows plan members ledger journal payments till)
     (name : List ℕ) (user : ℕ) (is_user : IsUser journal.history name user) (q : QuestionText) (asked : Asked)
     (is_question : IsQuestionFor (market_of file) file.tree journal.history q asked)
-    (quote : Quote) (is : IsQuoteOf file.net file.tree journal.history user asked quote) (are : AreQuoted gains_stand file.net file.tree journal.history members new_members user (LastLimits quote)) where
+    (quote : Quote) (is : IsQuoteOf file.net file.tree journal.history user asked quote) (are : AreQuoted gains_stand file.net file.tree journal.history members new_members user (LastLimits quote))
+    (beside : AreApart user journal.history members new_members) where
   next_quoted : standing_of journal new_members
       ≡ record { history = journal.history ++ []; quotes = with_limits (market_of file) journal.history (map (option_map quoted) (quotes_of members)) name q (limits_of quote) }
   next_quoted =
@@ -247,6 +251,8 @@ module _ {P A Plan : Type 0} (weights_stand : P → Meaning → Type 0) (gains_s
             (record { limits = limits_of quote; printed = refl; right = right_for_user (subst (AreRightFor (bounds_of quote)) its right) }));
         next = next_quoted;
         paid = λ u. refl;
+        one_each = each_owns new_members (users journal.history) beside.named;
+        others = others_left journal.history name user is_user members new_members beside.apart;
       })
 
   -- an edit that is outside of the quote's limits
@@ -272,6 +278,8 @@ module _ {P A Plan : Type 0} (weights_stand : P → Meaning → Type 0) (gains_s
             (inr beyond);
         next = next_quoted;
         paid = λ u. refl;
+        one_each = each_owns new_members (users journal.history) beside.named;
+        others = others_left journal.history name user is_user members new_members beside.apart;
       })
 
 -- ---- a trade
@@ -324,14 +332,17 @@ module _ (file : MarketFile) (journal : JournalOf) (open_for : IsOpen file.net f
         ∙ ap (λ (n : ℕ). journal.history ++ option_to_list (option_map (λ (a : Asked). Trade n (ratio_in file.net a hit miss)) (question_named file.net q))) is_user.number)
         same_quotes
 
-    pub trade_answered : (ledger : LedgerOf)
+    pub trade_answered : (ledger : LedgerOf) → AreApart user journal.history members new_members
         → IsAnswered (trading file ledger journal members)
         (trading file ledger new_journal new_members) (Edit name q X seen) (Traded hit miss at)
-    trade_answered ledger = record {
+    trade_answered ledger are = record {
       market = nothing_added (market_of file) (standing_of journal members) (Edit name q X seen)
           (Traded hit miss at) tt;
       allowed = λ sound. trade_allowed;
       next =
           trade_next;
       paid = λ u. refl;
+      one_each = each_owns_then new_members journal.history new_journal.history
+          (Trade user (ratio_in file.net asked hit miss)) are.named history refl;
+      others = others_left journal.history name user is_user members new_members are.apart;
     }

@@ -1,5 +1,5 @@
 -- Payments that fit, and how many there are.
-use Rattle.std.proofs.Common.{◌≡◌, ℕ, zero, suc, ◌<◌, List, [], ◌∷◌, map, length, slice_index_or, ◌∙◌, arith}
+use Rattle.std.proofs.Common.{◌≡◌, ℕ, zero, suc, ◌<◌, List, [], ◌∷◌, map, length, slice_index_or, sym, ap, ◌∙◌, arith}
 use Rattle.std.specs.List.{AllByRecursion}
 use Rattle.std.proofs.lemmas.List.{length-map}
 use Rattle.std.proofs.lemmas.List.FromFn.{length-range_with_len}
@@ -27,11 +27,6 @@ highs_fit [] h k d inside = absurd (omega arith)
 highs_fit (p ∷ rows) h zero d inside = h.0.high
 highs_fit (p ∷ rows) h (suc k) d inside = highs_fit rows h.1 k d (omega (arith, inside))
 
-pub pays_fit : (pays : List Payment) → AllByRecursion (λ (p : Payment). p.low < number_limit) pays
-    → AllByRecursion (λ (p : Payment). p.high < number_limit) pays → AllByRecursion FitPayment (map ends_of pays)
-pays_fit [] lows highs = tt
-pays_fit (p ∷ pays) lows highs = (record { low = lows.0; high = highs.0 }, pays_fit pays lows.1 highs.1)
-
 pub read_fit : (pays : List Payment) → AllByRecursion IsReadPayment pays → AllByRecursion FitPayment (map ends_of pays)
 read_fit [] h = tt
 read_fit (p ∷ pays) h = (record { low = h.0.low; high = h.0.high }, read_fit pays h.1)
@@ -40,3 +35,7 @@ read_fit (p ∷ pays) h = (record { low = h.0.low; high = h.0.high }, read_fit p
 pub rule_count : (network : List Variable) (H : List Entry) (b : ℕ) → length (payments_by_rule network H b) ≡ length (users H)
 rule_count network H b = length-map (numbers_below (length (users H))) (payment_by_rule H b (outcome network H))
     ∙ length-range_with_len 0 (length (users H))
+
+pub rows_count : (network : List Variable) (H : List Entry) (b : ℕ) (rows : List Payout)
+    → map ends rows ≡ payments_by_rule network H b → length rows ≡ length (users H)
+rows_count network H b rows are = sym (length-map rows ends) ∙ ap length are ∙ rule_count network H b

@@ -1,5 +1,5 @@
 -- A user joins.
-use Rattle.std.specs.Prelude.{◌≡◌, ℕ, List, [], ◌∷◌, ◌++◌, map, length, Option, None, option_map}
+use Rattle.std.specs.Prelude.{◌≡◌, ℕ, List, [], ◌∷◌, ◌++◌, map, length, Option, Some, None, option_map, slice_get}
 use Rattle.std.proofs.Common.{inr, refl, sym, ap, ap₂, ◌∙◌, subst, arith}
 use Rattle.std.proofs.lemmas.List.{length_push, map-append}
 use Rattle.mk_net.specs.Network.{Variable}
@@ -23,11 +23,12 @@ use Rattle.mk_rules.specs.Quotes.{Quotes}
 use Rattle.mk_rules.specs.Transcript.{OfCommand, IsAllowedFor, after}
 use Rattle.mk_record.specs.declared.users.Member.{Member}
 use Rattle.mk_record.specs.Journals.{JournalOf}
-use Rattle.mk_record.specs.Members.{new_member, names_of, quotes_of}
+use Rattle.mk_record.specs.Members.{new_member, names_of, assets_of, quotes_of}
 use Rattle.mk_market.specs.Points.{ArePaidBy}
 use Rattle.mk_market.specs.Trading.{Trading, IsAnswered}
 use Rattle.mk_market.specs.inner.Keeping.{quoted, standing_of, IsKept, TakesAsMuch}
 use Rattle.mk_record.proofs.Appends.{not_there}
+use Rattle.mk_market.proofs.Apart.{EachOwns, left_alone, each_owns, joined_left}
 use Rattle.mk_market.proofs.Growing.{kept_grown}
 use Rattle.mk_market.proofs.Owned.{held_joined, none_quoted_joined}
 use Rattle.mk_market.proofs.Accounted.{paid_opened, accounts_joined}
@@ -35,12 +36,14 @@ use Rattle.mk_market.proofs.Replies.{answer_allowed, refused_stays, unsettled}
 use Rattle.mk_replay.specs.Tills.{TillOf}
 
 -- where memory is wanting nothing changes
-pub memory_answered : (now : Trading) (name : List ℕ) → None ≡ first_refusal now.market now.standing.history (User name) → IsAnswered now now (User name) (Refused Memory)
-memory_answered now name none = record {
+pub memory_answered : {Own : Type 0} → (now : Trading Own) → EachOwns now → (name : List ℕ) → None ≡ first_refusal now.market now.standing.history (User name) → IsAnswered now now (User name) (Refused Memory)
+memory_answered now owns name none = record {
   market = refl;
   allowed = λ sound. answer_allowed now.market now.standing (User name) (Refused Memory) none (inr refl);
   next = refused_stays now.market now.standing (User name) Memory tt;
   paid = λ u. refl;
+  one_each = owns;
+  others = left_alone now now (User name) refl;
 }
 
 module _ {P A Plan : Type 0} (weights_stand : P → Meaning → Type 0) (gains_stand : A → Meaning → Type 0) (plan_for : Plan → List Variable → GivenTree → Type 0)
@@ -80,6 +83,15 @@ module _ {P A Plan : Type 0} (weights_stand : P → Meaning → Type 0) (gains_s
     names_more =
         ap (λ (ms : List (Member A Plan)). names_of ms) more ∙ map-append (λ (m : Member A Plan). m.name) members (new_member name assets ∷ [])
         ∙ ap (λ (names : List (List ℕ)). names ++ name ∷ []) kept.named ∙ sym (users_more journal.history name)
+
+    -- each user owns something, and the others own what they owned
+    pub join_owns : length (assets_of new_members) ≡ length (users new_journal.history)
+    join_owns = each_owns new_members (users new_journal.history)
+        (names_more ∙ sym (ap users history))
+
+    pub join_left : (u : ℕ) (other : List ℕ) → slice_get (users journal.history) u ≡ Some other
+        → slice_get (assets_of new_members) u ≡ slice_get (assets_of members) u
+    join_left = joined_left journal.history members new_members name assets kept.named more
 
     -- the market is kept
     pub join_kept : IsName name → TakesAsMuch journal new_journal → new_ledger ≡ record ledger { accounts = ledger.accounts ++ empty_account ∷ [] }

@@ -3,6 +3,7 @@ pub mod EveryValue
 pub mod Growing
 pub mod Refiled
 pub mod Lent
+pub mod Apart
 pub mod Quotes
 pub mod Stopping
 pub mod Edited

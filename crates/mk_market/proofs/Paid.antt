@@ -1,73 +1,32 @@
--- Users are paid, one after another.
-use Rattle.std.specs.Prelude.{◌≡◌, ℕ, ◌+◌, ◌<◌, ◌≤◌, zero, suc, List, [], ◌∷◌, ◌++◌, length, map, take, Some, slice_get}
-use Rattle.std.specs.List.{AllByRecursion, AllZip, enumerate_from}
-use Rattle.std.proofs.Common.{refl, sym, ap, ap₂, add-zero, ◌∙◌, subst, arith}
-use Rattle.std.proofs.lemmas.List.{map-append, length-map, length_push}
-use Rattle.mk_engine.specs.Meaning.{Meaning}
-use Rattle.mk_net.specs.Bounds.{number_limit, sharpness, grade_room}
-use Rattle.mk_net.specs.Network.{Variable}
+-- Payments by rule are told, one after another, and are what the rules allow.
+use Rattle.std.specs.Prelude.{◌≡◌, ℕ, ◌+◌, ◌<◌, ◌≤◌, zero, suc, List, [], ◌∷◌, ◌++◌, length, map, take}
+use Rattle.std.specs.Prelude.{Some, slice_get}
+use Rattle.std.specs.List.{AllByRecursion, AllZip, enumerate_from, range_with_len}
+use Rattle.std.proofs.Common.{refl, sym, ap, ◌∙◌, subst, arith}
+use Rattle.std.proofs.lemmas.List.{map-append, length_push}
+use Rattle.mk_net.specs.Bounds.{sharpness}
+use Rattle.mk_net.specs.Network.{Variable, IsNetwork}
 use Rattle.mk_states.proofs.Sums.{each-append}
-use Rattle.mk_exact.specs.Cash.{CoversCash}
 use Rattle.mk_states.specs.Events.{always}
-use Rattle.mk_exact.specs.Existing.{HasLeast}
+use Rattle.mk_exact.specs.Cash.{CoversCash}
+use Rattle.mk_exact.specs.Factors.{HoldsNoTrade, factor}
 use Rattle.mk_exact.specs.Sound.{IsSound}
-use Rattle.mk_exact.specs.Factors.{Fraction, HoldsNoTrade, IsAtLeastOne, factor, factor_with, gain}
-use Rattle.mk_exact.specs.Factors.{least_gain}
-use Rattle.mk_exact.specs.History.{Entry}
+use Rattle.mk_exact.specs.History.{Entry, users}
+use Rattle.mk_exact.specs.ByRule.{payment_by_rule, payments_by_rule, first_state}
 use Rattle.mk_exact.specs.Weight.{IsSmall, possible_states}
-use Rattle.mk_exact.proofs.ExistMarkets.{least_gain_exists}
-use Rattle.mk_tree.specs.Given.{GivenTree}
-use Rattle.mk_enclose.specs.declared.factor.Factor.{Factor}
-use Rattle.mk_enclose.specs.Enclosure.{Encloses, IsExact, IsGradedWithin}
-use Rattle.mk_enclose.specs.Factor.{StandsFor}
+use Rattle.mk_cash.proofs.Payments.{payment_by_rule_covers}
+use Rattle.mk_file.specs.declared.market_file.MarketFile.{MarketFile}
+use Rattle.mk_file.specs.MarketOf.{market_of}
 use Rattle.mk_reply.specs.declared.payments.Payment.{Payment}
-use Rattle.mk_rules.specs.Answers.{IsPayment}
-use Rattle.mk_answers.specs.Open.{IsOpen, IsFactorFor}
-use Rattle.mk_record.specs.declared.users.Member.{Member}
-use Rattle.mk_record.specs.Members.{names_of, quotes_of}
-use Rattle.mk_market.specs.inner.Keeping.{AreHeld}
-use Rattle.mk_market.proofs.Lent.{there}
-use Rattle.mk_market.proofs.Weaker.{cash_when}
+use Rattle.mk_rules.specs.Answers.{IsPayment, ends_of}
+use Rattle.mk_restore.specs.Laws.{IsSafe}
+use Rattle.mk_history.specs.declared.entry.Payout.{Payout}
+use Rattle.mk_history.specs.Entries.{ends}
 
--- ---- one user
+-- ---- one after another
 
-pub some_is : {X : Type 0} (x y : X) → Some x ≡ Some y → x ≡ y
+some_is : {X : Type 0} (x y : X) → Some x ≡ Some y → x ≡ y
 some_is x y e = cc
-
-module _ (network : List Variable) (tree : GivenTree) (H : List Entry) (open_for : IsOpen network tree H) (user : ℕ) (state : List ℕ)
-    (one : possible_states network H always ≡ state ∷ []) where
-  -- the least gain over one state is the gain there
-  only_gain : least_gain network H user always ≡ Some (gain H user state)
-  only_gain = rw one refl
-
-  safe : IsSound network H → IsAtLeastOne (factor H user state)
-  safe sound =
-      let has : HasLeast network H user = least_gain_exists network H user open_for.legal open_for.proper in
-      let same : Some has.least ≡ Some (gain H user state) = sym has.is_least ∙ only_gain in
-      subst (λ (g : ℕ). IsAtLeastOne (factor_with H user g)) (some_is has.least (gain H user state) same) (has.safe sound).at_least_one
-
-  pub covers_factor : IsSound network H → (f : Factor) (most_trades points low high : ℕ)
-      → ((g : ℕ) → least_gain network H user always ≡ Some g
-      → IsFactorFor f most_trades (IsSmall network H) (factor_with H user g))
-      → (HoldsNoTrade H user → Encloses f.gain 1)
-      → ((q : Fraction) (most_trades : ℕ) → StandsFor f q.num q.den
-      → IsGradedWithin f.gain (grade_room most_trades) → IsAtLeastOne q
-      → CoversCash (IsExact f.gain) (Encloses f.gain 1) (sharpness most_trades) q points low high)
-      → CoversCash (IsSmall network H) (HoldsNoTrade H user) (sharpness most_trades)
-      (factor H user state) points low high
-  covers_factor sound f most_trades points low high found one_gain covers =
-      let is = found (gain H user state) only_gain in
-      cash_when (IsSmall network H) (IsExact f.gain) (HoldsNoTrade H user) (Encloses f.gain 1)
-      is.exact one_gain (factor H user state) (sharpness most_trades) points low high
-      (covers (factor H user state) most_trades is.stands is.graded (safe sound))
-
--- ---- all
-
-zip_push : {A B : Type 0} (R : A → B → Type 0) (xs : List A) (ys : List B) (x : A) (y : B) → AllZip R xs ys → R x y → AllZip R (xs ++ x ∷ []) (ys ++ y ∷ [])
-zip_push R [] [] x y h r = (r, tt)
-zip_push R [] (b ∷ ys) x y h r = absurd h
-zip_push R (a ∷ xs) [] x y h r = absurd h
-zip_push R (a ∷ xs) (b ∷ ys) x y h r = (h.0, zip_push R xs ys x y h.1 r)
 
 -- one more of the first
 take_more : {X : Type 0} (xs : List X) (n : ℕ) (x : X) → slice_get xs n ≡ Some x
@@ -79,74 +38,94 @@ take_more {X} (y ∷ xs) (suc n) x e =
     ap (λ (j : ℕ). take j (y ∷ xs)) k
     ∙ ap (λ (rest : List X). y ∷ rest) (take_more xs n x e)
 
-next_of : {X : Type 0} (xs : List X) (m n : ℕ) (x : X) → slice_get xs n ≡ Some x → enumerate_from m (take (n + 1) xs) ≡ enumerate_from m (take n xs) ++ (m + n, x) ∷ []
-next_of [] m n x e = cc
-next_of (y ∷ xs) m zero x e = ap₂ (λ (k : ℕ) (z : _). (k, z) ∷ []) (sym (add-zero m)) (some_is y x e)
-next_of {X} (y ∷ xs) m (suc n) x e =
-    let k : suc n + 1 ≡ suc (n + 1) = omega arith in
-    let l : m + 1 + n ≡ m + suc n = omega arith in
-    ap (λ (j : ℕ). enumerate_from m (take j (y ∷ xs))) k
-    ∙ ap (λ (rest : List (ℕ × X)). (m, y) ∷ rest) (next_of xs (m + 1) n x e)
-    ∙ ap (λ (j : ℕ). (m, y) ∷ (enumerate_from (m + 1) (take n xs) ++ (j, x) ∷ [])) l
+-- those before a place are told
+pub record AreToldBefore (names : List (List ℕ)) (rows : List Payout) (n : ℕ)
+    (payments : List Payment) : Type 0 where
+  pub made : length payments ≡ n
+  pub in_order : map (λ (p : Payment). p.user) payments ≡ take n names
+  pub both_ends : map ends_of payments ≡ map ends (take n rows)
+  pub low_ends : AllByRecursion (λ (p : Payment). p.paid ≡ p.low) payments
 
-module _ {A Plan : Type 0} (gains_stand : A → Meaning → Type 0) (network : List Variable) (tree : GivenTree) (H : List Entry) (most_trades points : ℕ) (old : List (Member A Plan)) where
-  -- the users before a place have their payments
-  pub record ArePaidBefore (n : ℕ) (new : List (Member A Plan)) (payments : List Payment) : Type 0 where
-    pub names : names_of new ≡ names_of old
-    pub quotes : quotes_of new ≡ quotes_of old
-    pub held : AreHeld gains_stand network tree H new
-    pub made : length payments ≡ n
-    pub in_order : map (λ (p : Payment). p.user) payments ≡ take n (names_of old)
-    pub low_ends : AllByRecursion (λ (p : Payment). p.paid ≡ p.low) payments
-    pub lows_fit : AllByRecursion (λ (p : Payment). p.low < number_limit) payments
-    pub highs_fit : AllByRecursion (λ (p : Payment). p.high < number_limit) payments
-    pub paid : IsSound network H → (state : List ℕ) → possible_states network H always ≡ state ∷ []
-        → AllZip (IsPayment network H most_trades points state) (enumerate_from 0 (take n (names_of old)))
-        payments
+pub none_told : (names : List (List ℕ)) (rows : List Payout) → AreToldBefore names rows 0 []
+none_told names rows = record { made = refl; in_order = refl; both_ends = refl; low_ends = tt }
 
-  pub one_paid : (n : ℕ) (before now : List (Member A Plan)) (payments new_payments : List Payment) (payment : Payment) → n < length old
-      → ArePaidBefore n before payments
-      → AreHeld gains_stand network tree H now → names_of now ≡ names_of before → quotes_of now ≡ quotes_of before
-      → slice_get (names_of before) n ≡ Some payment.user
-      → payment.paid ≡ payment.low → payment.low < number_limit → payment.high < number_limit
-      → (IsSound network H → (state name : List ℕ) → possible_states network H always ≡ state ∷ []
-      → slice_get (names_of before) n ≡ Some name
-      → IsPayment network H most_trades points state (n, name) payment)
-      → new_payments ≡ payments ++ payment ∷ [] → ArePaidBefore (n + 1) now new_payments
-  one_paid n before now payments new_payments payment within so_far held same_names same_quotes its_user low_end low_fits high_fits is_paid pushed = record {
-    names = same_names ∙ so_far.names;
-    quotes = same_quotes ∙ so_far.quotes;
-    held = held;
-    made = ap (λ (xs : List Payment). length xs) pushed ∙ length_push payments payment ∙ ap (λ (k : ℕ). k + 1) so_far.made;
-    in_order =
-        ap (map (λ (p : Payment). p.user)) pushed
-        ∙ map-append (λ (p : Payment). p.user) payments (payment ∷ [])
-        ∙ ap (λ (names : List (List ℕ)). names ++ payment.user ∷ []) so_far.in_order
-        ∙ sym (take_more (names_of old) n payment.user
-        (ap (λ (names : List (List ℕ)). slice_get names n) (sym so_far.names) ∙ its_user));
-    low_ends = each_now (λ (p : Payment). p.paid ≡ p.low) so_far.low_ends low_end;
-    lows_fit = each_now (λ (p : Payment). p.low < number_limit) so_far.lows_fit low_fits;
-    highs_fit = each_now (λ (p : Payment). p.high < number_limit) so_far.highs_fit high_fits;
-    paid = λ sound state one. now_paid sound state one;
-  }
-    where
-      each_now : (P : Payment → Type 0) → AllByRecursion P payments → P payment → AllByRecursion P new_payments
-      each_now P so_far its = subst (AllByRecursion P) (sym pushed) (each-append P payments (payment ∷ []) so_far (its, tt))
+pub one_told : (names : List (List ℕ)) (rows : List Payout) (n : ℕ) (before now : List Payment)
+    (payment : Payment) (row : Payout) → AreToldBefore names rows n before
+    → slice_get names n ≡ Some payment.user → slice_get rows n ≡ Some row
+    → ends_of payment ≡ ends row → payment.paid ≡ payment.low → now ≡ before ++ payment ∷ []
+    → AreToldBefore names rows (n + 1) now
+one_told names rows n before now payment row so_far its_name its_row same low pushed = record {
+  made = ap (λ (ps : List Payment). length ps) pushed ∙ length_push before payment
+      ∙ ap (λ (k : ℕ). k + 1) so_far.made;
+  in_order = ap (map (λ (p : Payment). p.user)) pushed
+      ∙ map-append (λ (p : Payment). p.user) before (payment ∷ [])
+      ∙ ap (λ (all : List (List ℕ)). all ++ payment.user ∷ []) so_far.in_order
+      ∙ sym (take_more names n payment.user its_name);
+  both_ends = ap (map ends_of) pushed ∙ map-append ends_of before (payment ∷ [])
+      ∙ ap (λ (all : List (ℕ × ℕ)). all ++ ends_of payment ∷ []) so_far.both_ends
+      ∙ ap (λ (own : ℕ × ℕ). map ends (take n rows) ++ own ∷ []) same
+      ∙ sym (map-append ends (take n rows) (row ∷ []))
+      ∙ ap (map ends) (sym (take_more rows n row its_row));
+  low_ends = subst (AllByRecursion (λ (p : Payment). p.paid ≡ p.low)) (sym pushed)
+      (each-append (λ (p : Payment). p.paid ≡ p.low) before (payment ∷ []) so_far.low_ends (low, tt));
+}
 
-      now_paid : IsSound network H → (state : List ℕ) → possible_states network H always ≡ state ∷ []
-          → AllZip (IsPayment network H most_trades points state)
-          (enumerate_from 0 (take (n + 1) (names_of old))) new_payments
-      now_paid sound state one =
-          let count = length-map old (λ (m : Member A Plan). m.name) in
-          let found = there (names_of old) n (omega (arith, within, count)) in
-          let last : IsPayment network H most_trades points state (n, found.0) payment = is_paid sound state (found.0)
-          one (ap (λ (names : List (List ℕ)). slice_get names n) so_far.names ∙ found.1) in
-          let zero_n : 0 + n ≡ n = omega arith in
-          subst (λ (ps : List Payment). AllZip (IsPayment network H most_trades points state)
-          (enumerate_from 0 (take (n + 1) (names_of old))) ps) (sym pushed)
-          (subst (λ (xs : List (ℕ × List ℕ)). AllZip (IsPayment network H most_trades points state) xs
-          (payments ++ payment ∷ []))
-          (sym (next_of (names_of old) 0 n (found.0) (found.1)
-          ∙ ap (λ (k : ℕ). enumerate_from 0 (take n (names_of old)) ++ (k, found.0) ∷ []) zero_n))
-          (zip_push (IsPayment network H most_trades points state) (enumerate_from 0 (take n (names_of old)))
-          payments (n, found.0) payment (so_far.paid sound state one) last))
+-- ---- all
+
+-- payments in the order of names, with the ends that a rule gives each place
+told_each : (R : ℕ × List ℕ → Payment → Type 0) (rule : ℕ → ℕ × ℕ)
+    → ((u : ℕ) (name : List ℕ) (p : Payment) → p.user ≡ name → ends_of p ≡ rule u
+    → p.paid ≡ p.low → R (u, name) p)
+    → (names : List (List ℕ)) (pays : List Payment) (m : ℕ)
+    → map (λ (p : Payment). p.user) pays ≡ names
+    → map ends_of pays ≡ map rule (range_with_len m (length names))
+    → AllByRecursion (λ (p : Payment). p.paid ≡ p.low) pays
+    → AllZip R (enumerate_from m names) pays
+told_each R rule each [] [] m in_order same lows = tt
+told_each R rule each [] (p ∷ pays) m in_order same lows = absurd (cc)
+told_each R rule each (name ∷ names) [] m in_order same lows = absurd (cc)
+told_each R rule each (name ∷ names) (p ∷ pays) m in_order same lows =
+    let first : p.user ≡ name = cc in
+    let later : map (λ (p : Payment). p.user) pays ≡ names = cc in
+    let own : ends_of p ≡ rule m = cc in
+    let others : map ends_of pays ≡ map rule (range_with_len (m + 1) (length names)) = cc in (
+      each m name p first own lows.0,
+      told_each R rule each names pays (m + 1) later others lows.1,
+    )
+
+-- in the one possible state the payments by rule are what users are paid
+pub rule_pays : (file : MarketFile) (H : List Entry) → IsNetwork file.net
+    → IsSafe (market_of file) H → IsSound file.net H → (state : List ℕ)
+    → possible_states file.net H always ≡ state ∷ [] → (pays : List Payment)
+    → map (λ (p : Payment). p.user) pays ≡ users H
+    → map ends_of pays ≡ payments_by_rule file.net H file.points_per_bit
+    → AllByRecursion (λ (p : Payment). p.paid ≡ p.low) pays
+    → AllZip (IsPayment file.net H file.max_trades file.points_per_bit state)
+    (enumerate_from 0 (users H)) pays
+rule_pays file H legal safe sound state one pays in_order same lows =
+    told_each (IsPayment file.net H file.max_trades file.points_per_bit state)
+    (payment_by_rule H file.points_per_bit state) each (users H) pays 0 in_order
+    (subst (λ (s : List ℕ). map ends_of pays
+    ≡ map (payment_by_rule H file.points_per_bit s) (range_with_len 0 (length (users H))))
+    (ap first_state one) same)
+    lows
+  where
+    covers : (u : ℕ) → CoversCash (IsSmall file.net H) (HoldsNoTrade H u)
+        (sharpness file.max_trades) (factor H u state) file.points_per_bit
+        (payment_by_rule H file.points_per_bit state u).0
+        (payment_by_rule H file.points_per_bit state u).1
+    covers u =
+        payment_by_rule_covers file.net H file.max_trades file.points_per_bit state u legal
+        safe.proper sound safe.bounded.within safe.bounded.few_trades safe.legal.some_points
+        safe.legal.few_points one
+
+    each : (u : ℕ) (name : List ℕ) (p : Payment) → p.user ≡ name
+        → ends_of p ≡ payment_by_rule H file.points_per_bit state u → p.paid ≡ p.low
+        → IsPayment file.net H file.max_trades file.points_per_bit state (u, name) p
+    each u name p named ends_are low = record {
+      name = named;
+      covers = subst (λ (both : ℕ × ℕ). CoversCash (IsSmall file.net H) (HoldsNoTrade H u)
+          (sharpness file.max_trades) (factor H u state) file.points_per_bit both.0 both.1)
+          (sym ends_are) (covers u);
+      low_end = low;
+    }

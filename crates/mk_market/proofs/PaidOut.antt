@@ -11,6 +11,7 @@ use Rattle.mk_rules.specs.Refusals.{first_refusal, user_number}
 use Rattle.mk_record.specs.Refused.{IsUser}
 use Rattle.mk_market.specs.Points.{IsAccount, AreAccounts}
 use Rattle.mk_market.specs.Trading.{Trading, IsAnswered}
+use Rattle.mk_market.proofs.Apart.{EachOwns, left_alone}
 use Rattle.mk_market.proofs.Replies.{answer_allowed, none_appended, nothing_added}
 
 -- the reply with these two ends
@@ -18,18 +19,20 @@ abbrev pub told_ends : List ℕ → ℕ → ℕ → Reply
 told_ends name low high = Told (record { user = name; low = low; high = high; paid = low })
 
 -- the user's account holds both ends of the user's payment
-pub paid_answered : (now : Trading) (name : List ℕ) (user low high : ℕ)
-    → AreAccounts now.market now.standing.history now.accounts
+pub paid_answered : {Own : Type 0} → (now : Trading Own) (name : List ℕ) (user low high : ℕ)
+    → AreAccounts now.market now.standing.history now.accounts → EachOwns now
     → IsUser now.standing.history name user
     → None ≡ first_refusal now.market now.standing.history (Paid name)
     → low ≡ (account_of now.accounts user).paid → high ≡ (account_of now.accounts user).high
     → IsAnswered now now (Paid name) (told_ends name low high)
-paid_answered now name user low high accounts is_user none low_is high_is = record {
+paid_answered now name user low high accounts owns is_user none low_is high_is = record {
   market = nothing_added now.market now.standing (Paid name) (told_ends name low high) tt;
   allowed = λ sound.
       answer_allowed now.market now.standing (Paid name) (told_ends name low high) none told;
   next = none_appended now.market now.standing (Paid name) (told_ends name low high) refl refl;
   paid = λ u. refl;
+  one_each = owns;
+  others = left_alone now now (Paid name) refl;
 }
   where
     account : IsAccount now.market now.standing.history user (account_of now.accounts user)

@@ -3,7 +3,7 @@ use Rattle.std.specs.Prelude.{◌≡◌, ℕ, ◌<◌, List, [], ◌++◌, ◌�
 use Rattle.std.proofs.Common.{sym, ap, ap₂, ◌∙◌, subst, inl, inr, arith, append-nil}
 use Rattle.std.proofs.lemmas.List.{length-map, map-set}
 use Rattle.mk_net.specs.Network.{Variable}
-use Rattle.mk_exact.specs.History.{Entry, revision}
+use Rattle.mk_exact.specs.History.{Entry, users, revision}
 use Rattle.mk_tree.specs.Given.{GivenTree}
 use Rattle.mk_file.specs.declared.market_file.MarketFile.{MarketFile}
 use Rattle.mk_file.specs.MarketOf.{market_of}
@@ -21,16 +21,21 @@ use Rattle.mk_record.specs.declared.last_quote.LastQuote.{LastQuote}
 use Rattle.mk_record.specs.declared.users.Member.{Member}
 use Rattle.mk_record.specs.Journals.{JournalOf}
 use Rattle.mk_record.specs.Members.{names_of, assets_of, quotes_of, with_quote}
-use Rattle.mk_market.specs.Trading.{Trading, IsAnswered}
+use Rattle.mk_market.specs.Trading.{Trading, LeavesOthers, IsAnswered}
 use Rattle.mk_market.specs.inner.Keeping.{quoted, standing_of, AreHeld, IsKeptQuote, AreKeptQuotes, IsKept}
+use Rattle.mk_market.proofs.Apart.{each_owns}
 use Rattle.mk_market.proofs.Lent.{in_range, read_set, names_beside, assets_beside, quotes_set}
 use Rattle.mk_replay.specs.Tills.{TillOf}
 
 -- a market as its callers see it
 abbrev pub trading : {A Plan : Type 0} → MarketFile → LedgerOf → JournalOf
-    → List (Member A Plan) → Trading
-trading file ledger journal members = record
-    { market = market_of file; standing = standing_of journal members; accounts = ledger.accounts }
+    → List (Member A Plan) → Trading (Assets A Plan)
+trading file ledger journal members = record {
+  market = market_of file;
+  standing = standing_of journal members;
+  accounts = ledger.accounts;
+  assets = assets_of members;
+}
 
 some_is : {X : Type 0} (x y : X) → Some x ≡ Some y → x ≡ y
 some_is x y e = cc
@@ -141,11 +146,36 @@ module _ {P A Plan : Type 0} (weights_stand : P → Meaning → Type 0) (gains_s
 
 -- an answer behind users who have learnt what is known, and were quoted the same, is one behind those before
 pub answered_learnt : {A Plan : Type 0} (file : MarketFile) (ledger : LedgerOf) (journal : JournalOf) (members learnt : List (Member A Plan))
-    → quotes_of learnt ≡ quotes_of members → (new : Trading) (command : Command) (reply : Reply)
+    → quotes_of learnt ≡ quotes_of members → (new : Trading (Assets A Plan)) (command : Command) (reply : Reply)
+    → LeavesOthers (trading file ledger journal members) new command
     → IsAnswered (trading file ledger journal learnt) new command reply → IsAnswered (trading file ledger journal members) new command reply
-answered_learnt file ledger journal members learnt same new command reply =
-    subst (λ (qs : List (Option LastQuote)). IsAnswered (record {
+answered_learnt {A} {Plan} file ledger journal members learnt same new command reply others is =
+    let quoted_as : List (Option LastQuote) → Trading (Assets A Plan) = λ qs. record {
       market = market_of file;
       standing = record { history = journal.history; quotes = map (option_map quoted) qs };
       accounts = ledger.accounts;
-    }) new command reply) same
+      assets = assets_of members;
+    } in
+    subst (λ (qs : List (Option LastQuote)). IsAnswered (quoted_as qs) new command reply) same (record {
+      market = is.market;
+      allowed = is.allowed;
+      next = is.next;
+      paid = is.paid;
+      one_each = is.one_each;
+      others = subst (λ (qs : List (Option LastQuote)). LeavesOthers (quoted_as qs) new command) (sym same) others;
+    })
+
+-- so is one before users who have learnt it, where they are those of the history
+pub answered_before : {A Plan : Type 0} (file : MarketFile) (ledger : LedgerOf) (journal : JournalOf) (members learnt : List (Member A Plan))
+    → quotes_of learnt ≡ quotes_of members → names_of learnt ≡ users journal.history → (command : Command) (reply : Reply)
+    → LeavesOthers (trading file ledger journal members) (trading file ledger journal learnt) command
+    → IsAnswered (trading file ledger journal members) (trading file ledger journal members) command reply
+    → IsAnswered (trading file ledger journal members) (trading file ledger journal learnt) command reply
+answered_before file ledger journal members learnt same named command reply others is = record {
+  market = is.market;
+  allowed = is.allowed;
+  next = ap (λ (qs : List (Option LastQuote)). record { history = journal.history; quotes = map (option_map quoted) qs }) same ∙ is.next;
+  paid = is.paid;
+  one_each = each_owns learnt (users journal.history) named;
+  others = others;
+}

@@ -53,6 +53,7 @@ use Rattle.mk_market.specs.inner.Adding.{IsLonger, HoldEach, AreRegrown, HasGrow
 use Rattle.mk_market.specs.inner.Restored.{IsTakenBack}
 use Rattle.mk_market.specs.inner.Keeping.{quoted, standing_of, IsKeptQuote, IsKept, TakesAsMuch}
 use Rattle.mk_market.proofs.Accounted.{accounts_kept}
+use Rattle.mk_market.proofs.Apart.{EachOwns, each_owns_then}
 use Rattle.mk_market.proofs.Growing.{SafeIn, quote_later}
 use Rattle.mk_market.proofs.Homes.{trades_have}
 use Rattle.mk_market.proofs.Owned.{holding_same, few_moved}
@@ -224,13 +225,18 @@ module _ {P A E Plan : Type 0} (weights_stand : P → Meaning → Type 0)
       }
 
   -- as its callers see it
-  pub has_grown : (old new : Trading)
-      → old ≡ record
-      { market = market_of file; standing = standing_of journal members; accounts = ledger.accounts }
+  pub has_grown : (old new : Trading (Assets A Plan))
+      → old ≡ record {
+        market = market_of file;
+        standing = standing_of journal members;
+        accounts = ledger.accounts;
+        assets = assets_of members;
+      }
       → new ≡ record {
         market = market_of parts.file;
         standing = standing_of new_journal new_members;
         accounts = ledger.accounts;
+        assets = assets_of new_members;
       } → HasGrown old new add
   has_grown old new before later =
       rw (before, later) (record {
@@ -238,22 +244,26 @@ module _ {P A E Plan : Type 0} (weights_stand : P → Meaning → Type 0)
         next = ap₂ (λ (K : List Entry) (qs : List (Option LastQuote)). record
             { history = K; quotes = map (option_map quoted) qs }) grown quotes;
         accounts = refl;
+        one_each = each_owns_then new_members H new_journal.history (Adds a)
+            (names ∙ kept.named) grown refl;
       })
 
 -- where memory is wanting nothing changes
-pub no_memory_answered : (now : Trading) (add : AddText)
+pub no_memory_answered : {Own : Type 0} → (now : Trading Own) → EachOwns now → (add : AddText)
     → None ≡ first_refusal now.market now.standing.history (Add add)
     → IsAnswered now now (Add add) (Refused Memory)
-no_memory_answered now add none = record {
+no_memory_answered now owns add none = record {
   market = refl;
   allowed = λ sound.
       answer_allowed now.market now.standing (Add add) (Refused Memory) none (inr refl);
   next = refused_stays now.market now.standing (Add add) Memory tt;
   paid = λ u. refl;
+  one_each = owns;
+  others = tt;
 }
 
 -- a market that has grown answers with the next revision
-pub grown_answered : (old new : Trading) (add : AddText) → IsAddText add
+pub grown_answered : {Own : Type 0} → (old new : Trading Own) (add : AddText) → IsAddText add
     → None ≡ first_refusal old.market old.standing.history (Add add) → HasGrown old new add
     → (at : ℕ) → at ≡ revision new.standing.history
     → IsAnswered old new (Add add) (Added add.variable at)
@@ -268,10 +278,12 @@ grown_answered old new add text none has at now =
           (inl (text, ap (λ (n : ℕ). Added add.variable n) later));
       next = has.next;
       paid = λ u. ap (λ (all : List Account). (account_of all u).paid) has.accounts;
+      one_each = has.one_each;
+      others = tt;
     }
 
 -- so does one to which a question is added again
-pub grown_taken_back : (old new : Trading) (add : AddText) (reply : Reply) → IsAddText add
+pub grown_taken_back : {Own : Type 0} → (old new : Trading Own) (add : AddText) (reply : Reply) → IsAddText add
     → None ≡ first_refusal old.market old.standing.history (Add add) → HasGrown old new add
     → reply ≡ Added add.variable (revision old.standing.history + 1)
     → IsTakenBack old new (Add add) reply

@@ -20,6 +20,7 @@ use Rattle.mk_rules.proofs.Adds.{IsNoAddition, adds_nothing}
 use Rattle.mk_rules.proofs.Appended.{refused_appends}
 use Rattle.mk_market.specs.Trading.{Trading, IsAnswered}
 use Rattle.mk_market.specs.inner.Answering.{IsAnsweredBy}
+use Rattle.mk_market.proofs.Apart.{EachOwns, left_alone}
 
 -- the first refusal of two lists is that of the first list where it has one, and else that of the second
 refused_before : (faults later : List (Option Refusal)) (why : Refusal) → Some why ≡ first_of faults → Some why ≡ first_of (faults ++ later)
@@ -115,25 +116,29 @@ refused_stays market now (Position user variable condition) why h = none_appende
 refused_stays market now Status why h = none_appended market now Status (Refused why) refl refl
 refused_stays market now (Add add) why h = none_appended market now (Add add) (Refused why) refl refl
 
-pub refused_answered : (old : Trading) (command : Command) (why : Refusal) → IsNoTrade command → Some why ≡ first_refusal old.market old.standing.history command
+pub refused_answered : {Own : Type 0} → (old : Trading Own) → EachOwns old → (command : Command) (why : Refusal) → IsNoTrade command
+    → Some why ≡ first_refusal old.market old.standing.history command
     → IsAnswered old old command (Refused why)
-refused_answered old command why other e = record {
+refused_answered old owns command why other e = record {
   market = refusal_adds_nothing old.market old.standing command why;
   allowed = λ sound. refusal_allowed old.market old.standing command why e;
   next = refused_stays old.market old.standing command why other;
   paid = λ u. refl;
+  one_each = owns;
+  others = left_alone old old command refl;
 }
 
 -- so does the market
-pub answered_refused : {F : Type 0} → (tell : F → Reply) (old known : Trading) → known ≡ old
+pub answered_refused : {Own F : Type 0} → (tell : F → Reply) (old known : Trading Own) → known ≡ old
+    → EachOwns known
     → (command : Command) → IsNoTrade command
     → (why : Refusal) (result : Result F Refusal) → IsErrAnd result (λ e. e ≡ why)
     → Some why ≡ first_refusal known.market known.standing.history command
     → IsAnsweredBy old old command result tell
-answered_refused tell old known same command other why (Ok found) e refusal = absurd e
-answered_refused tell old known same command other why (Err found) e refusal =
+answered_refused tell old known same owns command other why (Ok found) e refusal = absurd e
+answered_refused {Own} tell old known same owns command other why (Err found) e refusal =
     subst (λ (w : Refusal). IsAnswered old old command (Refused w)) (sym e)
-    (subst (λ (t : Trading). IsAnswered t t command (Refused why)) same (refused_answered known command why other refusal))
+    (subst (λ (t : Trading Own). IsAnswered t t command (Refused why)) same (refused_answered known owns command why other refusal))
 
 -- where no refusal meets a command the market is unsettled, but for one that asks what was paid
 pub unsettled_first : (b : Bool) (why : Refusal) (later : Option Refusal) → None ≡ or_else (fault_if b why) later → b ≡ false

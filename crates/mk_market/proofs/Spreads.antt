@@ -12,7 +12,7 @@ use Rattle.arrayvec.specs.ArrayVec.{ArrayVec}
 use Rattle.mk_net.specs.declared.words.PairText.{PairText}
 use Rattle.mk_net.specs.Network.{Variable, sizes}
 use Rattle.mk_net.specs.Asked.{IsUnits}
-use Rattle.mk_exact.specs.History.{Entry, Trade, revision}
+use Rattle.mk_exact.specs.History.{Entry, Trade, users, revision}
 use Rattle.mk_exact.specs.Limits.{Side}
 use Rattle.mk_states.specs.OfNetwork.{IsRatioOf}
 use Rattle.mk_exact.specs.Weight.{IsSmall}
@@ -65,6 +65,7 @@ use Rattle.mk_market.specs.Trading.{Trading, IsAnswered}
 use Rattle.mk_market.specs.inner.Answering.{IsAnsweredBy}
 use Rattle.mk_market.specs.inner.Keeping.{quoted, standing_of, IsKeptQuote, IsKept}
 use Rattle.mk_market.specs.inner.Quoting.{IsSpreadQuoteOf, IsOutside}
+use Rattle.mk_market.proofs.Apart.{EachOwns, AreApart, left_alone, each_owns, each_owns_then, others_left}
 use Rattle.mk_market.proofs.Growing.{is_open}
 use Rattle.mk_market.proofs.Quotes.{trading, quote_said, standing_quoted}
 use Rattle.mk_market.proofs.Replies.{answer_allowed, refusal_allowed, none_appended, nothing_added}
@@ -76,26 +77,28 @@ use Rattle.mk_replay.specs.Tills.{TillOf}
 -- ---- a refusal
 
 -- a spread that a refusal of the table meets leaves the standing
-pub refused_answered : (old : Trading) (name v : List ℕ) (condition : ArrayVec PairText) (to : ArrayVec ℕ) (seen : Option ℕ) (why : Refusal)
+pub refused_answered : {Own : Type 0} → (old : Trading Own) → EachOwns old → (name v : List ℕ) (condition : ArrayVec PairText) (to : ArrayVec ℕ) (seen : Option ℕ) (why : Refusal)
     → Some why ≡ first_refusal old.market old.standing.history (Spread name v condition to seen) → IsAnswered old old (Spread name v condition to seen) (Refused why)
-refused_answered old name v condition to seen why e = record {
+refused_answered old owns name v condition to seen why e = record {
   market = refl;
   allowed = λ sound. refusal_allowed old.market old.standing (Spread name v condition to seen) why e;
   next = none_appended old.market old.standing (Spread name v condition to seen) (Refused why) refl
       (spread_refused old.market old.standing.history old.standing.quotes name v condition to seen why (sym e));
   paid = λ u. refl;
+  one_each = owns;
+  others = left_alone old old (Spread name v condition to seen) refl;
 }
 
-pub spread_refused_answered : {F : Type 0} → (tell : F → Reply) (old known : Trading)
-    → known ≡ old → (name v : List ℕ) (condition : ArrayVec PairText) (to : ArrayVec ℕ)
+pub spread_refused_answered : {Own F : Type 0} → (tell : F → Reply) (old known : Trading Own)
+    → known ≡ old → EachOwns known → (name v : List ℕ) (condition : ArrayVec PairText) (to : ArrayVec ℕ)
     (seen : Option ℕ) (why : Refusal) (result : Result F Refusal) → IsErrAnd result (λ e. e ≡ why)
     → Some why ≡ first_refusal known.market known.standing.history
     (Spread name v condition to seen)
     → IsAnsweredBy old old (Spread name v condition to seen) result tell
-spread_refused_answered tell old known same name v condition to seen why (Ok found) e refusal = absurd e
-spread_refused_answered tell old known same name v condition to seen why (Err found) e refusal =
+spread_refused_answered tell old known same owns name v condition to seen why (Ok found) e refusal = absurd e
+spread_refused_answered {Own} tell old known same owns name v condition to seen why (Err found) e refusal =
     subst (λ (w : Refusal). IsAnswered old old (Spread name v condition to seen) (Refused w)) (sym e)
-    (subst (λ (t : Trading). IsAnswered t t (Spread name v condition to seen) (Refused why)) same (refused_answered known name v condition to seen why refusal))
+    (subst (λ (t : Trading Own). IsAnswered t t (Spread name v condition to seen) (Refused why)) same (refused_answered known owns name v condition to seen why refusal))
 
 -- the question of a slice of words is that of their list
 pub question_for : (file : MarketFile) (H : List Entry) (v : List ℕ) (words : List PairText) (condition : ArrayVec PairText) (spread : SpreadAsked) → words ≡ condition.items
@@ -244,7 +247,8 @@ module _ {P A Plan : Type 0} (weights_stand : P → Meaning → Type 0) (gains_s
     (name : List ℕ) (user : ℕ) (is_user : IsUser journal.history name user) (v : List ℕ) (condition : ArrayVec PairText) (spread : SpreadAsked)
     (is_question : IsSpreadQuestionFor (market_of file) file.tree journal.history v condition.items spread) (quote : SpreadQuote)
     (is : IsSpreadQuoteOf file.net file.tree journal.history user spread quote)
-    (new_quotes : quotes_of new_members ≡ slice_set (quotes_of members) user (Some (LastBounds quote))) where
+    (new_quotes : quotes_of new_members ≡ slice_set (quotes_of members) user (Some (LastBounds quote)))
+    (are : AreApart user journal.history members new_members) where
   next_quoted : (intervals : Intervals) → intervals ≡ intervals_of quote → standing_of journal new_members
       ≡ record { history = journal.history ++ []; quotes = with_bounds (market_of file) journal.history (map (option_map quoted) (quotes_of members)) name v condition.items intervals }
   next_quoted intervals given =
@@ -277,6 +281,8 @@ module _ {P A Plan : Type 0} (weights_stand : P → Meaning → Type 0) (gains_s
         }));
     next = next_quoted (given_in box) given;
     paid = λ u. refl;
+    one_each = each_owns new_members (users journal.history) are.named;
+    others = others_left journal.history name user is_user members new_members are.apart;
   }
 
   -- a spread that is outside of the quote's bounds
@@ -300,6 +306,8 @@ module _ {P A Plan : Type 0} (weights_stand : P → Meaning → Type 0) (gains_s
             (inr outside);
         next = next_quoted (given_in box) out.given;
         paid = λ u. refl;
+        one_each = each_owns new_members (users journal.history) are.named;
+        others = others_left journal.history name user is_user members new_members are.apart;
       }
 
 -- ---- a trade
@@ -355,14 +363,17 @@ module _ (file : MarketFile) (journal : JournalOf) (open_for : IsOpen file.net f
         ∙ ap (λ (n : ℕ). journal.history ++ option_to_list (option_map (λ (s : SpreadAsked). Trade n (spread_ratio s factors.items)) (spread_named file.net v condition.items))) is_user.number)
         same_quotes
 
-    pub spread_trade_answered : (ledger : LedgerOf)
+    pub spread_trade_answered : (ledger : LedgerOf) → AreApart user journal.history members new_members
         → IsAnswered (trading file ledger journal members)
         (trading file ledger new_journal new_members) (Spread name v condition to seen)
         (Spreaded factors at)
-    spread_trade_answered ledger = record {
+    spread_trade_answered ledger are = record {
       market = nothing_added (market_of file) (standing_of journal members)
           (Spread name v condition to seen) (Spreaded factors at) tt;
       allowed = λ sound. spread_trade_allowed;
       next = spread_trade_next;
       paid = λ u. refl;
+      one_each = each_owns_then new_members journal.history new_journal.history
+          (Trade user (spread_ratio spread factors.items)) are.named history refl;
+      others = others_left journal.history name user is_user members new_members are.apart;
     }

@@ -6,7 +6,7 @@ use Rattle.arrayvec.specs.ArrayVec.{ArrayVec}
 use Rattle.mk_net.specs.declared.words.PairText.{PairText}
 use Rattle.mk_net.specs.Firsts.{fault_if, first_of}
 use Rattle.mk_net.specs.Network.{Variable, sizes}
-use Rattle.mk_exact.specs.History.{Entry}
+use Rattle.mk_exact.specs.History.{Entry, users}
 use Rattle.mk_spread.specs.Bounds.{InsideEach}
 use Rattle.mk_spread.specs.Markets.{values_left}
 use Rattle.mk_spread.specs.Spreads.{SpreadAsked, asked_of}
@@ -47,7 +47,8 @@ use Rattle.mk_market.specs.inner.Keeping.{quoted, AreHeld, AreKeptQuotes, IsKept
 use Rattle.mk_market.specs.inner.Quoting.{IsSpreadQuoteOf, IsTurnedDown}
 use Rattle.mk_market.specs.inner.Stopped.{IsSpreadDecidedBy, IsRefusedFor, MayStop, CanRefuseSpread}
 use Rattle.mk_market.proofs.Growing.{is_open}
-use Rattle.mk_market.proofs.Quotes.{trading, kept_quoted}
+use Rattle.mk_market.proofs.Apart.{AreApart, each_owns, others_left}
+use Rattle.mk_market.proofs.Quotes.{trading, kept_quoted, answered_before}
 use Rattle.mk_market.proofs.Replies.{refused_answered, stopped_by_states, unrefused}
 use Rattle.mk_market.proofs.Spreads.{refused_answered as spread_refused, kept_quote, two_left}
 use Rattle.mk_market.proofs.Spreads.{no_side_is, outside_answered}
@@ -130,19 +131,7 @@ module _ {P A Plan : Type 0} (weights_stand : P → Meaning → Type 0) (gains_s
     (file : MarketFile) (prices : P) (rows : A) (plan : Plan) (members : List (Member A Plan)) (ledger : LedgerOf) (journal : JournalOf)
     (payments : Option (List Payment)) (till : Option TillOf) (kept : IsKept weights_stand gains_stand plan_for file prices rows plan members ledger journal payments till)
     (new_prices : P) (new_members : List (Member A Plan)) where
-  -- users who were quoted the same are the same to its callers
-  same_trading : quotes_of new_members ≡ quotes_of members
-      → trading file ledger journal members ≡ trading file ledger journal new_members
-  same_trading same =
-      ap (λ (qs : List (Option LastQuote)). record {
-        market = market_of file;
-        standing = record
-            { history = journal.history; quotes = map (option_map quoted) qs };
-        accounts = ledger.accounts;
-      })
-      (sym same)
-
-  -- and the market is kept beside them
+  -- a market is kept beside users who were quoted the same
   pub record AreBeside : Type 0 where
     pub prices_beside : (m : Meaning) → weights_stand prices m → weights_stand new_prices m
     pub names_beside : names_of new_members ≡ names_of members
@@ -201,13 +190,15 @@ module _ {P A Plan : Type 0} (weights_stand : P → Meaning → Type 0) (gains_s
     -- bounds of a distribution that is decided
     pub decided_answered : (why : SpreadDecided) (found : Refusal) → None ≡ first_of (refusals_by_record (market_of file) journal.history (Bounds name v condition))
         → IsSpreadDecidedBy file.net journal.history spread why → IsRefusedFor file.net journal.history v condition.items spread (stopped.Decided why) found
-        → quotes_of new_members ≡ quotes_of members
+        → quotes_of new_members ≡ quotes_of members → AreApart user journal.history members new_members
         → IsAnswered (trading file ledger journal members)
         (trading file ledger journal new_members) (Bounds name v condition) (Refused found)
-    decided_answered why found none by is same =
-        subst (λ (t : Trading). IsAnswered (trading file ledger journal members) t
-        (Bounds name v condition) (Refused found)) (same_trading same)
+    decided_answered why found none by is same are =
+        answered_before file ledger journal members new_members same are.named
+        (Bounds name v condition) (Refused found)
+        (others_left journal.history name user is_user members new_members are.apart)
         (refused_answered (trading file ledger journal members)
+        (each_owns members (users journal.history) kept.named)
         (Bounds name v condition) found tt
         (stopped_by_states (market_of file) journal.history (Bounds name v condition) found none
         (decided_first file.net file.tree journal.history v condition.items spread is_question.named why found [] by is)))
@@ -243,34 +234,38 @@ module _ {P A Plan : Type 0} (weights_stand : P → Meaning → Type 0) (gains_s
           (Refused found)
 
       refused_same : (found : Refusal) → quotes_of new_members ≡ quotes_of members
+          → AreApart user journal.history members new_members
           → first_of (impossible_together file.net journal.history condition.items ∷ sure_value file.net journal.history v condition.items
           ∷ impossible_share file.net journal.history v condition.items to.items ∷ missing_share file.net journal.history v condition.items to.items ∷ []) ≡ Some found → IsReply found
-      refused_same found same first =
-          subst (λ (t : Trading). IsAnswered (trading file ledger journal members) t
-          (Spread name v condition to seen) (Refused found)) (same_trading same)
-          (spread_refused (trading file ledger journal members) name v condition to seen found
+      refused_same found same are first =
+          answered_before file ledger journal members new_members same are.named
+          (Spread name v condition to seen) (Refused found)
+          (others_left journal.history name user is_user members new_members are.apart)
+          (spread_refused (trading file ledger journal members)
+          (each_owns members (users journal.history) kept.named) name v condition to seen found
           (stopped_by_states (market_of file) journal.history (Spread name v condition to seen) found none first))
 
       abbrev IsTurned : Stopped → Type 0
       IsTurned why = IsTurnedDown file.net file.tree journal.history user spread (quotes_of members) (quotes_of new_members) to.items why
 
       -- what stops it is its reply
-      pub stopped_answered : (why : Stopped) (found : Refusal) → IsTurned why → IsRefusedFor file.net journal.history v condition.items spread why found → IsReply found
-      stopped_answered (stopped.Decided why) found down is =
-          refused_same found down.same_quotes (decided_first file.net file.tree journal.history v condition.items spread is_question.named why found
+      pub stopped_answered : (why : Stopped) (found : Refusal) → IsTurned why → IsRefusedFor file.net journal.history v condition.items spread why found
+          → AreApart user journal.history members new_members → IsReply found
+      stopped_answered (stopped.Decided why) found down is are =
+          refused_same found down.same_quotes are (decided_first file.net file.tree journal.history v condition.items spread is_question.named why found
           (impossible_share file.net journal.history v condition.items to.items ∷ missing_share file.net journal.history v condition.items to.items ∷ []) down.decided is)
-      stopped_answered (stopped.ImpossibleShare value) found down is =
-          refused_same found down.quotes_left
+      stopped_answered (stopped.ImpossibleShare value) found down is are =
+          refused_same found down.quotes_left are
           (impossible_first file.net file.tree journal.history v condition.items spread is_question.named open_for user down.quote down.judge.its to.items value down.is_stopped
           ∙ ap (λ (w : Refusal). Some w) (sym is))
-      stopped_answered stopped.MissingShare found down is =
-          refused_same found down.quotes_left
+      stopped_answered stopped.MissingShare found down is are =
+          refused_same found down.quotes_left are
           (missing_first file.net file.tree journal.history v condition.items spread is_question.named open_for user down.quote down.judge.its to.items (down.is_stopped.0) (down.is_stopped.1)
           ∙ ap (λ (w : Refusal). Some w) (sym is))
-      stopped_answered (stopped.Outside box) found down is =
+      stopped_answered (stopped.Outside box) found down is are =
           subst IsReply (sym is)
           (outside_answered weights_stand gains_stand plan_for file prices rows plan members new_members ledger journal payments till kept name user is_user v condition spread is_question
-          down.quote down.judge.its down.quotes_left to seen box
+          down.quote down.judge.its down.quotes_left are to seen box
           (unrefused (market_of file) journal.history (Spread name v condition to seen) none
           (none_first file.net file.tree journal.history v condition.items spread is_question.named open_for user down.quote down.judge.its to.items
           down.is_stopped.no_impossible down.is_stopped.no_missing))

@@ -10,7 +10,7 @@ use Rattle.mk_net.specs.Asked.{Asked}
 use Rattle.mk_net.specs.Firsts.{fault_if, or_else, first_of}
 use Rattle.mk_net.specs.Network.{Variable}
 use Rattle.mk_states.specs.Events.{holds, with_target, without_target}
-use Rattle.mk_exact.specs.History.{Entry}
+use Rattle.mk_exact.specs.History.{Entry, users}
 use Rattle.mk_states.specs.OfNetwork.{IsPairOf}
 use Rattle.mk_exact.specs.Weight.{cannot_come}
 use Rattle.mk_net.specs.Events.{pairs_asked}
@@ -36,10 +36,13 @@ use Rattle.mk_answers.proofs.Homes.{condition_is_held}
 use Rattle.mk_record.specs.declared.last_quote.LastQuote.{LastQuote}
 use Rattle.mk_record.specs.declared.users.Member.{Member}
 use Rattle.mk_record.specs.Journals.{JournalOf}
-use Rattle.mk_record.specs.Members.{quotes_of}
+use Rattle.mk_record.specs.Members.{names_of, assets_of, quotes_of}
+use Rattle.mk_record.specs.Refused.{IsUser}
 use Rattle.mk_market.specs.Trading.{IsAnswered}
+use Rattle.mk_market.specs.inner.Apart.{OwnApart}
 use Rattle.mk_market.specs.inner.Keeping.{quoted, standing_of}
 use Rattle.mk_market.specs.inner.Stopped.{IsAskedBy, IsConditionBy, CanRefuseCondition}
+use Rattle.mk_market.proofs.Apart.{left_alone, each_owns, others_left}
 use Rattle.mk_market.proofs.Quotes.{trading}
 use Rattle.mk_record.proofs.Refusing.{pairs_are, slice_known}
 use Rattle.mk_market.proofs.Replies.{refusal_allowed, none_appended, stopped_by_states, unrefused}
@@ -133,38 +136,43 @@ edit_unrefused file H name q X seen asked named left none =
 -- the market answers with the refusal
 module _ {A Plan : Type 0} (file : MarketFile) (ledger : LedgerOf) (journal : JournalOf)
     (members new_members : List (Member A Plan))
-    (same_quotes : quotes_of new_members ≡ quotes_of members) where
+    (same_quotes : quotes_of new_members ≡ quotes_of members)
+    (named : names_of new_members ≡ users journal.history) where
   same_standing : standing_of journal new_members ≡ standing_of journal members
   same_standing = ap (λ (qs : List (Option LastQuote)). record { history = journal.history; quotes = map (option_map quoted) qs }) same_quotes
 
-  pub price_stopped : (q : QuestionText) (why : Refusal) → None ≡ first_of (refusals_by_record (market_of file) journal.history (Price q))
+  pub price_stopped : assets_of new_members ≡ assets_of members → (q : QuestionText) (why : Refusal) → None ≡ first_of (refusals_by_record (market_of file) journal.history (Price q))
       → impossible_together file.net journal.history q.condition.items ≡ Some why
       → IsAnswered (trading file ledger journal members)
       (trading file ledger journal new_members) (Price q) (Refused why)
-  price_stopped q why none e = record {
+  price_stopped same_assets q why none e = record {
     market = refl;
     allowed = λ sound. refusal_allowed (market_of file) (standing_of journal members) (Price q) why
         (stopped_by_states (market_of file) journal.history (Price q) why none (first_is _ _ why e));
     next = same_standing ∙ none_appended (market_of file) (standing_of journal members) (Price q) (Refused why) refl refl;
     paid = λ u. refl;
+    one_each = each_owns new_members (users journal.history) named;
+    others = left_alone (trading file ledger journal members) (trading file ledger journal new_members) (Price q) same_assets;
   }
 
-  pub limits_stopped : (name : List ℕ) (q : QuestionText) (why : Refusal) → None ≡ first_of (refusals_by_record (market_of file) journal.history (Limits name q))
+  pub limits_stopped : (name : List ℕ) (user : ℕ) → IsUser journal.history name user → OwnApart user members new_members → (q : QuestionText) (why : Refusal) → None ≡ first_of (refusals_by_record (market_of file) journal.history (Limits name q))
       → first_of (refusals_by_states (market_of file) journal.history (Limits name q)) ≡ Some why
       → IsAnswered (trading file ledger journal members)
       (trading file ledger journal new_members) (Limits name q) (Refused why)
-  limits_stopped name q why none e = record {
+  limits_stopped name user is_user apart q why none e = record {
     market = refl;
     allowed = λ sound. refusal_allowed (market_of file) (standing_of journal members) (Limits name q) why (stopped_by_states (market_of file) journal.history (Limits name q) why none e);
     next = same_standing ∙ none_appended (market_of file) (standing_of journal members) (Limits name q) (Refused why) refl refl;
     paid = λ u. refl;
+    one_each = each_owns new_members (users journal.history) named;
+    others = others_left journal.history name user is_user members new_members apart;
   }
 
-  pub edit_stopped : (name : List ℕ) (q : QuestionText) (X : ℕ) (seen : Option ℕ) (why : Refusal) → None ≡ first_of (refusals_by_record (market_of file) journal.history (Edit name q X seen))
+  pub edit_stopped : (name : List ℕ) (user : ℕ) → IsUser journal.history name user → OwnApart user members new_members → (q : QuestionText) (X : ℕ) (seen : Option ℕ) (why : Refusal) → None ≡ first_of (refusals_by_record (market_of file) journal.history (Edit name q X seen))
       → first_of (refusals_by_states (market_of file) journal.history (Edit name q X seen)) ≡ Some why
       → IsAnswered (trading file ledger journal members)
       (trading file ledger journal new_members) (Edit name q X seen) (Refused why)
-  edit_stopped name q X seen why none e =
+  edit_stopped name user is_user apart q X seen why none e =
       let first = stopped_by_states (market_of file) journal.history (Edit name q X seen) why none e in
       record {
         market = refl;
@@ -172,4 +180,6 @@ module _ {A Plan : Type 0} (file : MarketFile) (ledger : LedgerOf) (journal : Jo
         next = same_standing ∙ none_appended (market_of file) (standing_of journal members) (Edit name q X seen) (Refused why) refl
             (edit_refused (market_of file) journal.history (map (option_map quoted) (quotes_of members)) name q X seen why (sym first));
         paid = λ u. refl;
+        one_each = each_owns new_members (users journal.history) named;
+        others = others_left journal.history name user is_user members new_members apart;
       }

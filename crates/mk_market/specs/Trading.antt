@@ -1,5 +1,5 @@
 -- What a market in use is to its callers, and how it answers a command.
-use Rattle.std.specs.Prelude.{◌≡◌, ℕ, ⊤, ⊥, List, length, slice_get, Option, Some, None}
+use Rattle.std.specs.Prelude.{◌≡◌, ℕ, ⊤, List, length, slice_get, Option, Some, None}
 use Rattle.mk_exact.specs.History.{users}
 use Rattle.mk_exact.specs.Market.{Market, present}
 use Rattle.mk_exact.specs.Sound.{IsSound}

@@ -1,9 +1,7 @@
 //! The settlement.
 
-use crate::learning::learn;
 use crate::market::Market;
-use mk_answers::least_of;
-use mk_cash::{Ledger, cash};
+use mk_cash::Ledger;
 use mk_engine::Engine;
 use mk_file::MarketFile;
 use mk_history::Payout;
@@ -56,8 +54,7 @@ impl<P: Engine<SumProd>, A: Engine<MinProd>> Market<P, A> {
         total
     }
 
-    /// Each user is paid what the user's factor is worth in the one state that is left, and the
-    /// reply lists the payments.
+    /// Each user is paid by rule, and the reply lists the payments.
     fn settle_listed(&mut self) -> Reply
         requires can { CanBeSettled (self.old.market).network (self.old.standing).history }
         requires unrefused { None ≡ first_refusal self.old.market (self.old.standing).history Settle }
@@ -67,8 +64,8 @@ impl<P: Engine<SumProd>, A: Engine<MinProd>> Market<P, A> {
         let (Some(mut payments), Some(mut till)) = (self.payments.take(), self.till.take()) else {
             unreachable!()
         };
-        pay(&self.file, &self.journal, &mut self.users, &mut payments);
-        list(&mut till, payments.rows());
+        pay_all_by_rule(&self.file, &self.journal, &mut till);
+        tell(&self.users, till.rows(), &mut payments);
         book(&mut self.ledger, till.rows());
         self.journal.settle(till.into_payments());
         Reply::Settled {
@@ -99,92 +96,38 @@ impl<P: Engine<SumProd>, A: Engine<MinProd>> Market<P, A> {
     }
 }
 
-ghost use Rattle.std.specs.Prelude.{◌≡◌, ◌<◌, ◌≤◌, ℕ, List, [], ◌∷◌, ◌++◌, length, map, false, Some};
-ghost use Rattle.std.specs.Prelude.{slice_get, All};
-ghost use Rattle.std.specs.List.{AllZip, enumerate_from};
-ghost use Rattle.mk_net.specs.Bounds.{max_users, number_limit};
-ghost use Rattle.mk_states.specs.Events.{always};
-ghost use Rattle.mk_exact.specs.History.{is_settled, trades, users as users_of, payment_to};
-ghost use Rattle.mk_exact.specs.History.{or_nothing};
+ghost use Rattle.std.specs.Prelude.{◌≡◌, ◌<◌, ◌≤◌, ℕ, List, [], ◌∷◌, ◌++◌, length, map, false};
+ghost use Rattle.std.specs.Prelude.{All};
+ghost use Rattle.mk_net.specs.Bounds.{max_users, max_payments, number_limit};
+ghost use Rattle.mk_exact.specs.History.{users as users_of};
 ghost use Rattle.mk_exact.specs.ByRule.{payments_by_rule};
-ghost use Rattle.mk_exact.specs.Sound.{IsSound};
-ghost use Rattle.mk_exact.specs.Weight.{possible_states};
 ghost use Rattle.mk_cash.specs.Accounts.{account_of};
 ghost use Rattle.mk_file.specs.MarketOf.{market_of};
-ghost use Rattle.mk_reply.specs.declared.payments.Payment.{Payment as Told};
-ghost use Rattle.mk_rules.specs.Answers.{IsPayment, ends_of};
+ghost use Rattle.mk_rules.specs.Answers.{ends_of};
 ghost use Rattle.mk_restore.specs.Laws.{IsSafe};
-ghost use Rattle.mk_answers.specs.Open.{IsOpen};
 ghost use Rattle.mk_history.specs.Entries.{ends};
-ghost use Rattle.mk_record.specs.Members.{names_of, quotes_of};
+ghost use Rattle.mk_record.specs.Members.{names_of};
 ghost use Rattle.mk_record.specs.Refused.{CanBeSettled};
-ghost use Rattle.mk_market.specs.inner.Keeping.{AreHeld};
 ghost use Rattle.mk_market.specs.inner.Paying.{ArePaid};
 
-/// The payment to each user, in the order of joining.
-fn pay<A: Engine<MinProd>>(
-    file: &MarketFile,
-    journal: &Journal,
-    users: &mut Users<A>,
-    payments: &mut Payments,
-)
-    requires is_open { IsOpen file.now.net file.now.tree journal.now.history }
-    requires trades { length (trades journal.now.history) ≤ file.now.max_trades }
-    requires held { AreHeld A.stands_for file.now.net file.now.tree journal.now.history users.old }
-    requires few { length users.old ≤ 256 }
-    requires unpaid { payments.old ≡ [] }
-    ensures held { AreHeld A.stands_for file.now.net file.now.tree journal.now.history users.new }
-    ensures names { names_of users.new ≡ names_of users.old }
-    ensures quotes { quotes_of users.new ≡ quotes_of users.old }
-    ensures in_order { map (λ p. p.user) payments.new ≡ names_of users.old }
+/// Tells the payment to each user, in the order of joining.
+fn tell<A: Engine<MinProd>>(users: &Users<A>, rows: &[Payout], payments: &mut Payments)
+    requires one_each { length rows.now ≡ length users.now }
+    requires few { length rows.now ≤ max_payments }
+    requires untold { payments.old ≡ [] }
+    ensures in_order { map (λ p. p.user) payments.new ≡ names_of users.now }
+    ensures ends { map ends_of payments.new ≡ map ends rows.now }
     ensures low_ends { All (λ p. p.paid ≡ p.low) payments.new }
-    ensures fit { All (λ p. p.high < number_limit) payments.new }
-    ensures lows_fit { All (λ p. p.low < number_limit) payments.new }
-    ensures payments { IsSound file.now.net journal.now.history
-        → (state : List ℕ) → possible_states file.now.net journal.now.history always ≡ state ∷ []
-        → AllZip (IsPayment file.now.net journal.now.history file.now.max_trades file.now.points_per_bit
-        state)
-        (enumerate_from 0 (names_of users.old)) payments.new }
 {
-    for user in 0..users.count() {
-        payments.push(payment_of(file, journal, users, user));
-    }
-}
-
-/// What a user is paid, who learns what is known: the low end of what the least factor over all
-/// possible states is worth.
-fn payment_of<A: Engine<MinProd>>(
-    file: &MarketFile,
-    journal: &Journal,
-    users: &mut Users<A>,
-    user: u32,
-) -> Payment
-    requires is_open { IsOpen file.now.net file.now.tree journal.now.history }
-    requires trades { length (trades journal.now.history) ≤ file.now.max_trades }
-    requires held { AreHeld A.stands_for file.now.net file.now.tree journal.now.history users.old }
-    requires user { user < length users.old }
-    ensures held { AreHeld A.stands_for file.now.net file.now.tree journal.now.history users.new }
-    ensures names { names_of users.new ≡ names_of users.old }
-    ensures quotes { quotes_of users.new ≡ quotes_of users.old }
-    ensures user { slice_get (names_of users.old) user ≡ Some result.user }
-    ensures payment { IsSound file.now.net journal.now.history
-        → (state name : List ℕ) → possible_states file.now.net journal.now.history always
-        ≡ state ∷ []
-        → slice_get (names_of users.old) user ≡ Some name
-        → IsPayment file.now.net journal.now.history file.now.max_trades file.now.points_per_bit state
-        (user, name) result }
-    ensures low_end { result.paid ≡ result.low }
-    ensures low_fits { result.low < number_limit }
-    ensures high_fits { result.high < number_limit }
-{
-    learn(users, file, journal, user);
-    let factor = least_of(users.assets(user));
-    let (low, high) = cash(&factor, file.points_per_bit);
-    Payment {
-        user: users.name(user),
-        low,
-        high,
-        paid: low,
+    let mut user = 0;
+    for row in rows {
+        payments.push(Payment {
+            user: users.name(user),
+            low: row.low,
+            high: row.high,
+            paid: row.low,
+        });
+        user += 1;
     }
 }
 

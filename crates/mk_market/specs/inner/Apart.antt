@@ -1,5 +1,5 @@
 -- Whose assets a call may touch.
-use Rattle.std.specs.Prelude.{◌≡◌, ℕ, ⊥, List, slice_get}
+use Rattle.std.specs.Prelude.{◌≡◌, ℕ, List, slice_get}
 use Rattle.mk_record.specs.declared.users.Member.{Member}
 use Rattle.mk_record.specs.Members.{assets_of}
 

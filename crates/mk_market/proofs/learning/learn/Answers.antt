@@ -1,5 +1,6 @@
 use Rattle.std.proofs.Common.{refl, sym}
 use Rattle.mk_answers.specs.Open.{holding_of}
+use Rattle.mk_market.proofs.Apart.{apart_lent}
 use Rattle.mk_market.proofs.Learnt.{can_learn, owned_then, held_learnt}
 use Rattle.mk_market.proofs.Lent.{names_stay, quotes_stay}
 use Rattle.mk_market.proofs.learning.learn.Goals as goal
@@ -29,3 +30,6 @@ returns-clause-names g c = names_stay c.args.users.now c.args.user c.learn.new.s
 
 pub returns-clause-quotes : goal.returns-clause-quotes
 returns-clause-quotes g c = quotes_stay c.args.users.now c.args.user c.learn.new.self
+
+pub returns-clause-apart : goal.returns-clause-apart
+returns-clause-apart g c = apart_lent c.args.users.now c.args.user c.learn.new.self

@@ -6,6 +6,7 @@ use Rattle.mk_quote.specs.declared.bounds.Bounds.{Bounds}
 use Rattle.mk_answers.specs.Open.{CanBeAnswered, AreBoundsFor}
 use Rattle.mk_answers.specs.Results.{AreBothLeft}
 use Rattle.mk_tree.proofs.Held.{home_is_held}
+use Rattle.mk_market.proofs.Apart.{apart_lent, apart_then}
 use Rattle.mk_market.proofs.Learnt.{held_asked, still_in_range}
 use Rattle.mk_market.proofs.Lent.{names_stay, quotes_stay}
 use Rattle.mk_market.proofs.quoting.fresh_quote.Goals as goal
@@ -105,3 +106,23 @@ returns-in-Sure-clause-quote g c =
     let a = c.requires in
     c.in-Sure.ensures.sides c.args.file.now.tree c.args.journal.now.history c.args.request.now.user
     a.in_use.weights (c.learn.ensures.learnt c.assets.result.now c.assets.ensures.value) a.in_use.is_open a.answered
+
+pub returns-in-Open-clause-apart : goal.returns-in-Open-clause-apart
+returns-in-Open-clause-apart g c =
+    apart_then c.args.request.now.user c.args.users.now c.learn.new.users _ c.learn.ensures.apart
+    (apart_lent c.learn.new.users c.args.request.now.user c.bounds_of.new.assets)
+
+pub returns-in-Impossible-clause-apart : goal.returns-in-Impossible-clause-apart
+returns-in-Impossible-clause-apart g c =
+    apart_then c.args.request.now.user c.args.users.now c.learn.new.users _ c.learn.ensures.apart
+    (apart_lent c.learn.new.users c.args.request.now.user c.bounds_of.new.assets)
+
+pub returns-in-Never-clause-apart : goal.returns-in-Never-clause-apart
+returns-in-Never-clause-apart g c =
+    apart_then c.args.request.now.user c.args.users.now c.learn.new.users _ c.learn.ensures.apart
+    (apart_lent c.learn.new.users c.args.request.now.user c.bounds_of.new.assets)
+
+pub returns-in-Sure-clause-apart : goal.returns-in-Sure-clause-apart
+returns-in-Sure-clause-apart g c =
+    apart_then c.args.request.now.user c.args.users.now c.learn.new.users _ c.learn.ensures.apart
+    (apart_lent c.learn.new.users c.args.request.now.user c.bounds_of.new.assets)

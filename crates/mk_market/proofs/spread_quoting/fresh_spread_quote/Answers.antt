@@ -6,6 +6,7 @@ use Rattle.mk_quote.specs.declared.side.SideBounds.{SideBounds}
 use Rattle.mk_answers.specs.Open.{CanBeSpreadHere, AreSideBoundsFor}
 use Rattle.mk_quote.specs.Questions.{spread_in}
 use Rattle.mk_record.proofs.SpreadRefusals.{value_is_held}
+use Rattle.mk_market.proofs.Apart.{apart_lent, apart_then}
 use Rattle.mk_market.proofs.Learnt.{held_asked, still_in_range}
 use Rattle.mk_market.proofs.Lent.{names_stay, quotes_stay}
 use Rattle.mk_market.proofs.spread_quoting.fresh_spread_quote.Goals as goal
@@ -94,3 +95,18 @@ returns-in-Open-clause-quote g c =
             c.args.request.now.user spread sides) c.make.ensures.question are_sides));
       };
     }
+
+pub returns-in-Open-clause-apart : goal.returns-in-Open-clause-apart
+returns-in-Open-clause-apart g c =
+    apart_then c.args.request.now.user c.args.users.now c.learn.new.users _ c.learn.ensures.apart
+    (apart_lent c.learn.new.users c.args.request.now.user c.spread_bounds_of.new.assets)
+
+pub returns-in-Impossible-clause-apart : goal.returns-in-Impossible-clause-apart
+returns-in-Impossible-clause-apart g c =
+    apart_then c.args.request.now.user c.args.users.now c.learn.new.users _ c.learn.ensures.apart
+    (apart_lent c.learn.new.users c.args.request.now.user c.spread_bounds_of.new.assets)
+
+pub returns-in-Sure-clause-apart : goal.returns-in-Sure-clause-apart
+returns-in-Sure-clause-apart g c =
+    apart_then c.args.request.now.user c.args.users.now c.learn.new.users _ c.learn.ensures.apart
+    (apart_lent c.learn.new.users c.args.request.now.user c.spread_bounds_of.new.assets)

@@ -6,9 +6,10 @@ use Rattle.mk_quote.specs.Questions.{spread_in}
 use Rattle.mk_quote.specs.Spreads.{IsSpreadFor}
 use Rattle.mk_record.specs.declared.last_quote.LastQuote.TheVariants.{Bounds}
 use Rattle.mk_record.specs.declared.users.Member.{Member}
-use Rattle.mk_record.specs.Members.{names_of, quotes_of}
+use Rattle.mk_record.specs.Members.{names_of, assets_of, quotes_of}
 use Rattle.mk_market.specs.inner.Keeping.{AreHeld}
 use Rattle.mk_market.specs.inner.Quoting.{quotes_behind}
+use Rattle.mk_market.proofs.Apart.{apart_same, apart_then, apart_quoted}
 use Rattle.mk_market.proofs.Judging.{last_judges, fresh_judges, judged_by_last, taken, turned_down, behind_set, behind_left, none_held}
 use Rattle.mk_market.proofs.Quotes.{quote_was_set}
 use Rattle.mk_market.proofs.Spreads.{as_many_sides}
@@ -118,3 +119,17 @@ returns-after-is_outside-clause-judged g c =
     ] in
     turned_down net tree H c.args.request.now.user spread quotes quote judge c.args.shares.now
     new_quotes why behind c.in-Err-judged_by.ensures
+
+pub returns-after-is_outside-clause-apart : goal.returns-after-is_outside-clause-apart
+returns-after-is_outside-clause-apart g c =
+    elim c.if-is_outside.branch [
+      | then-is_outside w ↦
+          apart_quoted c.args.request.now.user c.args.users.now c.fresh_spread_quote.new.users
+          c.if-is_outside.users (Bounds c.in-Ok.quote) c.in-Ok.ensures.apart
+          (w.users-is ∙ w.set_quote.ensures)
+      | else-is_outside w ↦
+          apart_then c.args.request.now.user c.args.users.now c.fresh_spread_quote.new.users
+          c.if-is_outside.users c.in-Ok.ensures.apart
+          (apart_same c.fresh_spread_quote.new.users c.if-is_outside.users
+          c.args.request.now.user (ap assets_of w.users-is))
+    ]

@@ -5,6 +5,7 @@ use Rattle.mk_exact.specs.History.{Trade}
 use Rattle.mk_beliefs.specs.Meanings.{weights_of, gains_of}
 use Rattle.mk_assets.specs.Holdings.{Holds, with_first_known}
 use Rattle.mk_answers.specs.Open.{holding_of}
+use Rattle.mk_market.proofs.Apart.{apart_lent}
 use Rattle.mk_market.proofs.Lent.{names_stay, quotes_stay}
 use Rattle.mk_market.proofs.Owned.{held_one}
 use Rattle.mk_market.proofs.Traded.{can_multiply, can_trade, trader_holding, others_holding}
@@ -64,3 +65,6 @@ returns-clause-names g c = names_stay c.args.users.now c.args.user c.trade.new.s
 
 pub returns-clause-quotes : goal.returns-clause-quotes
 returns-clause-quotes g c = quotes_stay c.args.users.now c.args.user c.trade.new.self
+
+pub returns-clause-apart : goal.returns-clause-apart
+returns-clause-apart g c = apart_lent c.args.users.now c.args.user c.trade.new.self

@@ -6,49 +6,50 @@ use Rattle.mk_reply.specs.declared.refusal.Refusal.TheVariants.{Memory}
 use Rattle.mk_reply.specs.declared.reply.Reply.TheVariants.{Refused}
 use Rattle.mk_rules.specs.Refusals.{first_refusal}
 use Rattle.mk_market.specs.Trading.{Trading, IsAnswered}
+use Rattle.mk_market.proofs.Apart.{each_owns}
 use Rattle.mk_market.proofs.Regrowing.{no_memory_answered, grown_answered}
 use Rattle.mk_market.proofs.Replies.{answered_refused}
 use Rattle.mk_market.proofs.market.Market.add.Goals as goal
 
 pub returns-in_err-refuse_add : goal.returns-in_err-refuse_add
 returns-in_err-refuse_add g c =
-    answered_refused _ c.args.self.now _ c.self.view_is (Add c.args.add.now) tt
+    answered_refused _ c.args.self.now _ c.self.view_is (each_owns _ _ c.self.invariant.named)
+    (Add c.args.add.now) tt
     c.in_err-refuse_add.field-0.0 c.from_residual.result c.from_residual.ensures.1
     c.in_err-refuse_add.ensures.refusal
 
 pub returns-then-not-has_text : goal.returns-then-not-has_text
 returns-then-not-has_text g c =
-    rw (← c.self.view_is) (no_memory_answered _ c.args.add.now c.in_ok-refuse_add.ensures.refusal)
+    rw (← c.self.view_is) (no_memory_answered _ (each_owns _ _ c.self.invariant.named) c.args.add.now c.in_ok-refuse_add.ensures.refusal)
 
 pub grow-requires-clause-unrefused : goal.grow-requires-clause-unrefused
 grow-requires-clause-unrefused g c =
-    subst (λ (t : Trading). first_refusal t.market t.standing.history (Add c.args.add.now) ≡ None)
+    subst (λ (t : Trading _). first_refusal t.market t.standing.history (Add c.args.add.now) ≡ None)
     c.self.view_is (sym c.in_ok-refuse_add.ensures.refusal)
 
 pub grow-requires-clause-prices : goal.grow-requires-clause-prices
 grow-requires-clause-prices g c =
     c.requires.prices c.args.add.now refl (c.has_text.ensures.0 c.if-not-has_text.false)
-    (subst (λ (t : Trading). first_refusal t.market t.standing.history (Add c.args.add.now) ≡ None)
+    (subst (λ (t : Trading _). first_refusal t.market t.standing.history (Add c.args.add.now) ≡ None)
     c.self.view_is (sym c.in_ok-refuse_add.ensures.refusal))
 
 pub grow-requires-clause-assets : goal.grow-requires-clause-assets
 grow-requires-clause-assets g c =
     c.requires.assets c.args.add.now refl (c.has_text.ensures.0 c.if-not-has_text.false)
-    (subst (λ (t : Trading). first_refusal t.market t.standing.history (Add c.args.add.now) ≡ None)
+    (subst (λ (t : Trading _). first_refusal t.market t.standing.history (Add c.args.add.now) ≡ None)
     c.self.view_is (sym c.in_ok-refuse_add.ensures.refusal))
 
 pub returns-in_default : goal.returns-in_default
 returns-in_default g c =
-    subst (λ (t : Trading). IsAnswered c.args.self.now t (Add c.args.add.now) (Refused Memory))
-    (sym c.in_default.ensures.err)
+    rw c.in_default.ensures.err
     (rw (← c.self.view_is)
-    (no_memory_answered _ c.args.add.now c.in_ok-refuse_add.ensures.refusal))
+    (no_memory_answered _ (each_owns _ _ c.self.invariant.named) c.args.add.now c.in_ok-refuse_add.ensures.refusal))
 
 pub returns : goal.returns
 returns g c =
     grown_answered c.args.self.now c.grow.new.self c.args.add.now
     (c.has_text.ensures.0 c.if-not-has_text.false)
-    (sym (subst (λ (t : Trading). first_refusal t.market t.standing.history (Add c.args.add.now)
+    (sym (subst (λ (t : Trading _). first_refusal t.market t.standing.history (Add c.args.add.now)
     ≡ None) c.self.view_is (sym c.in_ok-refuse_add.ensures.refusal)))
     c.in-Ok.ensures.ok c.revision.result
-    (c.revision.ensures ∙ ap (λ (t : Trading). revision t.standing.history) c.self-2.view_is)
+    (c.revision.ensures ∙ ap (λ (t : Trading _). revision t.standing.history) c.self-2.view_is)

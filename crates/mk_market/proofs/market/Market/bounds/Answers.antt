@@ -1,4 +1,4 @@
-use Rattle.std.proofs.Common.{List, refl, sym, subst}
+use Rattle.std.proofs.Common.{List, refl, sym, subst, ◌∙◌}
 use Rattle.mk_exact.specs.History.{users}
 use Rattle.mk_net.specs.declared.words.PairText.{PairText}
 use Rattle.mk_file.specs.MarketOf.{market_of}
@@ -7,6 +7,7 @@ use Rattle.mk_quote.specs.Questions.{spread_in}
 use Rattle.mk_record.specs.declared.last_quote.LastQuote.TheVariants.{Bounds}
 use Rattle.mk_market.specs.declared.possible.Stopped.TheVariants.{Decided}
 use Rattle.mk_market.specs.inner.Stopped.{IsRefusedFor}
+use Rattle.mk_market.proofs.Apart.{each_owns, apart_quoted}
 use Rattle.mk_market.proofs.Growing.{is_open}
 use Rattle.mk_market.proofs.Lent.{in_range}
 use Rattle.mk_market.proofs.Quotes.{quote_was_set, kept_quoted}
@@ -19,7 +20,7 @@ use Rattle.mk_market.proofs.market.Market.bounds.Goals as goal
 pub returns-in_err-request : goal.returns-in_err-request
 returns-in_err-request g c =
     let command = BoundsCommand c.args.name.now c.args.variable.now c.args.condition.now in
-    answered_refused _ c.args.self.now _ c.self.view_is command tt c.in_err-request.field-0.0
+    answered_refused _ c.args.self.now _ c.self.view_is (each_owns _ _ c.self.invariant.named) command tt c.in_err-request.field-0.0
     c.from_residual.result
     c.from_residual.ensures.1 (by_record (market_of c.self.inside.file)
     c.self.inside.journal.history command c.in_err-request.field-0.0
@@ -68,7 +69,8 @@ returns-in-Err g c =
     (decided_answered g.P.Engine.stands_for g.A.Engine.stands_for g.A.Engine.plan_for i.file i.prices i.rows i.plan i.users i.ledger i.journal i.payments i.till c.self.invariant
     c.refuse_stopped.new.prices c.fresh_spread_quote.new.users c.args.name.now found.request.user
     found.ensures.user c.args.variable.now c.args.condition.now spread question
-    c.in-Err.why c.refuse_stopped.result none c.in-Err.ensures.quote refused c.in-Err.ensures.quotes)
+    c.in-Err.why c.refuse_stopped.result none c.in-Err.ensures.quote refused c.in-Err.ensures.quotes
+    (record { named = c.in-Err.ensures.names ∙ c.self.invariant.named; apart = c.in-Err.ensures.apart }))
 
 pub invariant_of-self-2 : goal.invariant_of-self-2
 invariant_of-self-2 g c =
@@ -106,5 +108,10 @@ returns g c =
     (bounds_answered g.P.Engine.stands_for g.A.Engine.stands_for g.A.Engine.plan_for i.file i.prices i.rows i.plan i.users c.set_quote.new.self i.ledger i.journal i.payments i.till
     c.self.invariant c.args.name.now found.request.user found.ensures.user c.args.variable.now
     c.args.condition.now _ question quote its are.quotes
+    (record {
+      named = are.names ∙ c.self.invariant.named;
+      apart = apart_quoted found.request.user i.users made.new.users c.set_quote.new.self
+          (Bounds quote) c.in-Ok.ensures.apart c.set_quote.ensures;
+    })
     c.intervals-intervals.result c.revision.result none c.intervals-intervals.ensures.value
     c.intervals-intervals.ensures.right c.revision.ensures)

@@ -1,6 +1,9 @@
-use Rattle.std.proofs.Common.{refl}
+use Rattle.std.proofs.Common.{refl, ◌∙◌}
 use Rattle.mk_command.specs.declared.command.Command.TheVariants.{Deposit}
 use Rattle.mk_file.specs.MarketOf.{market_of}
+use Rattle.mk_exact.specs.History.{Deposit as Deposits}
+use Rattle.mk_market.proofs.Apart.{each_owns, each_owns_then, others_left, apart_lent}
+use Rattle.mk_market.proofs.Lent.{names_stay}
 use Rattle.mk_market.proofs.Replies.{answered_refused}
 use Rattle.mk_market.proofs.Deposits.{can_deposit, points_fit, deposit_kept, deposit_allowed}
 use Rattle.mk_market.proofs.Deposits.{deposit_next, deposit_paid}
@@ -8,7 +11,7 @@ use Rattle.mk_market.proofs.market.Market.deposit.Goals as goal
 
 pub returns-in_err-user : goal.returns-in_err-user
 returns-in_err-user g c =
-    answered_refused _ c.args.self.now _ c.self.view_is (Deposit c.args.name.now c.args.bits) tt c.in_err-user.field-0.0 c.from_residual.result
+    answered_refused _ c.args.self.now _ c.self.view_is (each_owns _ _ c.self.invariant.named) (Deposit c.args.name.now c.args.bits) tt c.in_err-user.field-0.0 c.from_residual.result
     c.from_residual.ensures.1 (c.in_err-user.ensures.deposit (market_of c.self.inside.file) c.self.invariant.max_transfers)
 
 pub deposit-requires : goal.deposit-requires
@@ -41,4 +44,11 @@ returns g c =
           _ _ _ _ c.self.invariant c.args.name.now c.in_ok-user.user c.args.bits
           c.in_ok-user.ensures.user c.in_ok-user.ensures.room c.deposit-2.new.self
           c.deposit-2.ensures c.revision.result;
+      one_each = each_owns_then _ c.self.inside.journal.history _
+          (Deposits c.in_ok-user.user c.args.bits)
+          (names_stay c.self.inside.users c.in_ok-user.user c.deposit.new.self ∙ c.self.invariant.named)
+          c.deposit-3.ensures.history refl;
+      others = others_left c.self.inside.journal.history c.args.name.now c.in_ok-user.user
+          c.in_ok-user.ensures.user c.self.inside.users _
+          (apart_lent c.self.inside.users c.in_ok-user.user c.deposit.new.self);
     })

@@ -9,6 +9,7 @@ use Rattle.mk_reply.specs.declared.reply.Reply.TheVariants.{Traded}
 use Rattle.mk_rules.proofs.Traded.{ratio_fits}
 use Rattle.mk_record.specs.declared.last_quote.LastQuote.TheVariants.{Limits}
 use Rattle.mk_market.specs.inner.Quoting.{CanBeMade}
+use Rattle.mk_market.proofs.Apart.{each_owns, apart_then, apart_quoted}
 use Rattle.mk_market.proofs.Replies.{by_record, unsettled}
 use Rattle.mk_market.proofs.Stopping.{edit_known, edit_unrefused, edit_stopped}
 use Rattle.mk_file.specs.MarketOf.{market_of}
@@ -23,7 +24,7 @@ use Rattle.mk_market.proofs.market.Market.edit.Goals as goal
 
 pub returns-in_err-request : goal.returns-in_err-request
 returns-in_err-request g c =
-    edit_refused_answered _ c.args.self.now _ c.self.view_is c.args.name.now c.args.question.now
+    edit_refused_answered _ c.args.self.now _ c.self.view_is (each_owns _ _ c.self.invariant.named) c.args.name.now c.args.question.now
     c.args.to c.args.at c.in_err-request.field-0.0 c.from_residual.result
     c.from_residual.ensures.1 (by_record (market_of c.self.inside.file)
     c.self.inside.journal.history (Edit c.args.name.now c.args.question.now c.args.to c.args.at)
@@ -43,7 +44,8 @@ returns-in-Err g c =
     let made = c.present_quote in
     rw (← c.self.view_is)
     (edit_stopped i.file i.ledger i.journal i.users made.new.users made.ensures.quotes
-    c.args.name.now c.args.question.now c.args.to c.args.at c.refuse_decided.result
+    (made.ensures.names ∙ c.self.invariant.named)
+    c.args.name.now found.request.user found.ensures.user made.ensures.apart c.args.question.now c.args.to c.args.at c.refuse_decided.result
     found.ensures.refusal
     (c.refuse_decided.ensures.refusal i.file.net i.file.tree i.journal.history (made.ensures.prices (weights_of i.file.net i.file.tree i.journal.history) c.self.invariant.prices_stand)
     (is_open g.P.Engine.stands_for g.A.Engine.stands_for g.A.Engine.plan_for i.file i.prices i.rows i.plan i.users i.ledger i.journal i.payments i.till c.self.invariant)
@@ -84,6 +86,11 @@ returns-in_default g c =
     (beyond_answered g.P.Engine.stands_for g.A.Engine.stands_for g.A.Engine.plan_for i.file i.prices i.rows i.plan i.users c.set_quote.new.self i.ledger i.journal i.payments i.till
     c.self.invariant c.args.name.now found.request.user found.ensures.user c.args.question.now
     found.request.question found.ensures.question ok.quote ok.ensures.quote are
+    (record {
+      named = are.names ∙ c.self.invariant.named;
+      apart = apart_quoted found.request.user i.users made.new.users c.set_quote.new.self
+          (Limits ok.quote) made.ensures.apart c.set_quote.ensures;
+    })
     c.args.to c.args.at c.limits.result none c.limits.ensures.value c.limits.ensures.right c.in_default.ensures.inside last)
 
 pub ratio_of_edit-ratio-requires-clause-hit : goal.ratio_of_edit-ratio-requires-clause-hit
@@ -214,4 +221,9 @@ returns g c =
     c.args.to (c.in-Some.units.0) (c.in-Some.units.1) c.in-Some.ensures.fair i.users c.trade.new.users c.trade.new.journal c.args.at none c.in-Some.ensures.inside last
     (c.trade.ensures.history ∙ ap (λ (r : TradeRatio). i.journal.history ++ Trade found.request.user
     r ∷ []) c.ratio_of_edit-ratio.ensures)
-    (c.trade.ensures.quotes ∙ made.ensures.quotes) c.revision.result c.revision.ensures i.ledger)
+    (c.trade.ensures.quotes ∙ made.ensures.quotes) c.revision.result c.revision.ensures i.ledger
+    (record {
+      named = c.trade.ensures.names ∙ made.ensures.names ∙ c.self.invariant.named;
+      apart = apart_then found.request.user i.users made.new.users c.trade.new.users
+          made.ensures.apart c.trade.ensures.apart;
+    }))

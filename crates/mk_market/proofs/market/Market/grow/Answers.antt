@@ -14,7 +14,7 @@ parts_with-requires-clause-can g c =
       tree = kept.tree;
       safe = kept.safe;
       text = c.requires.text;
-      unrefused = subst (λ (t : Trading). first_refusal t.market t.standing.history
+      unrefused = subst (λ (t : Trading _). first_refusal t.market t.standing.history
           (Add c.args.add.now) ≡ None) (sym c.self.view_is) c.requires.unrefused;
       one_each = c.count-joined.ensures.count ∙ as_many_users c.self.inside.users
           c.self.inside.journal.history kept.named;
@@ -26,7 +26,7 @@ invariant_of-self g c =
     kept_regrown g.P.Engine.stands_for g.A.Engine.stands_for g.A.Engine.plan_for i.file i.prices
     i.rows i.plan i.users i.ledger i.journal i.payments i.till c.self.invariant c.args.add.now
     c.requires.text
-    (subst (λ (t : Trading). first_refusal t.market t.standing.history (Add c.args.add.now) ≡ None)
+    (subst (λ (t : Trading _). first_refusal t.market t.standing.history (Add c.args.add.now) ≡ None)
     (sym c.self.view_is) c.requires.unrefused)
     c.in_ok-parts.parts c.in_ok-parts.ensures c.renew.new.self c.renew.ensures.names
     c.renew.ensures.assets c.renew.ensures.quotes c.add.new.self c.add.ensures.history
@@ -38,7 +38,7 @@ returns-clause-ok g c =
     has_grown g.P.Engine.stands_for g.A.Engine.stands_for g.A.Engine.plan_for i.file i.prices
     i.rows i.plan i.users i.ledger i.journal i.payments i.till c.self.invariant c.args.add.now
     c.requires.text
-    (subst (λ (t : Trading). first_refusal t.market t.standing.history (Add c.args.add.now) ≡ None)
+    (subst (λ (t : Trading _). first_refusal t.market t.standing.history (Add c.args.add.now) ≡ None)
     (sym c.self.view_is) c.requires.unrefused)
     c.in_ok-parts.parts c.in_ok-parts.ensures c.renew.new.self c.renew.ensures.names
     c.renew.ensures.assets c.renew.ensures.quotes c.add.new.self c.add.ensures.history

@@ -1,6 +1,8 @@
+use Rattle.std.proofs.Common.{◌∙◌}
 use Rattle.mk_command.specs.declared.command.Command.TheVariants.{Limits as Ask}
 use Rattle.mk_exact.specs.History.{users}
 use Rattle.mk_record.specs.declared.last_quote.LastQuote.TheVariants.{Limits}
+use Rattle.mk_market.proofs.Apart.{each_owns, apart_quoted}
 use Rattle.mk_market.proofs.Replies.{answered_refused, by_record}
 use Rattle.mk_market.proofs.Stopping.{limits_known, limits_unrefused, limits_stopped}
 use Rattle.mk_market.proofs.Growing.{is_open}
@@ -14,7 +16,7 @@ use Rattle.mk_market.proofs.market.Market.limits.Goals as goal
 pub returns-in_err-request : goal.returns-in_err-request
 returns-in_err-request g c =
     let i = c.self.inside in
-    answered_refused _ c.args.self.now _ c.self.view_is (Ask c.args.name.now c.args.question.now) tt
+    answered_refused _ c.args.self.now _ c.self.view_is (each_owns _ _ c.self.invariant.named) (Ask c.args.name.now c.args.question.now) tt
     c.in_err-request.field-0.0 c.from_residual.result
     c.from_residual.ensures.1 (by_record (market_of i.file) i.journal.history
     (Ask c.args.name.now c.args.question.now) c.in_err-request.field-0.0
@@ -34,7 +36,8 @@ returns-in-Err g c =
     let made = c.fresh_quote in
     rw (← c.self.view_is)
     (limits_stopped i.file i.ledger i.journal i.users made.new.users made.ensures.quotes
-    c.args.name.now c.args.question.now c.refuse_decided.result found.ensures.refusal
+    (made.ensures.names ∙ c.self.invariant.named)
+    c.args.name.now found.request.user found.ensures.user made.ensures.apart c.args.question.now c.refuse_decided.result found.ensures.refusal
     (c.refuse_decided.ensures.refusal i.file.net i.file.tree i.journal.history (made.ensures.prices (weights_of i.file.net i.file.tree i.journal.history) c.self.invariant.prices_stand)
     (is_open g.P.Engine.stands_for g.A.Engine.stands_for g.A.Engine.plan_for i.file i.prices i.rows i.plan i.users i.ledger i.journal i.payments i.till c.self.invariant)
     (record { named = found.ensures.question.named; known = limits_known i.file i.journal.history c.args.name.now c.args.question.now found.ensures.refusal }) c.in-Err.ensures.quote))
@@ -72,4 +75,9 @@ returns g c =
     (limits_answered g.P.Engine.stands_for g.A.Engine.stands_for g.A.Engine.plan_for i.file i.prices i.rows i.plan i.users c.set_quote.new.self i.ledger i.journal i.payments i.till
     c.self.invariant c.args.name.now found.request.user found.ensures.user c.args.question.now
     found.request.question found.ensures.question ok.quote ok.ensures.quote are
+    (record {
+      named = are.names ∙ c.self.invariant.named;
+      apart = apart_quoted found.request.user i.users made.new.users c.set_quote.new.self
+          (Limits ok.quote) made.ensures.apart c.set_quote.ensures;
+    })
     c.limits.result c.revision.result none c.limits.ensures.value c.limits.ensures.right c.revision.ensures)

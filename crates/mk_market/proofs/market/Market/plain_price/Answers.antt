@@ -3,6 +3,7 @@ use Rattle.std.specs.Prelude.{Option}
 use Rattle.mk_answers.specs.Results.{IsPriceFor}
 use Rattle.mk_net.specs.Events.{pairs_asked}
 use Rattle.mk_tree.proofs.Held.{home_is_held}
+use Rattle.mk_market.proofs.Apart.{each_owns}
 use Rattle.mk_market.proofs.Growing.{is_open}
 use Rattle.mk_market.proofs.Answers.{on_some, price_allowed, price_next}
 use Rattle.mk_market.proofs.market.Market.plain_price.Goals as goal
@@ -34,4 +35,6 @@ returns-clause-priced g c =
           (c.price_of.ensures.price tree H most_trades stands open_for fit answered));
       next = price_next g.P.Engine.stands_for g.A.Engine.stands_for g.A.Engine.plan_for _ _ _ _ _ _ _ _ _ c.self.invariant c.args.question.now low high;
       paid = λ u. refl;
+      one_each = each_owns _ _ c.self.invariant.named;
+      others = λ u name at differs. refl;
     }))

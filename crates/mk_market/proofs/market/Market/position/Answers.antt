@@ -9,10 +9,11 @@ use Rattle.mk_rules.proofs.Unrefused.{none_applies}
 use Rattle.mk_rules.proofs.Spreads.{spread_parts}
 use Rattle.mk_market.specs.inner.Keeping.{standing_of}
 use Rattle.mk_market.specs.inner.Stopped.{IsConditionBy}
+use Rattle.mk_market.proofs.Apart.{each_owns, others_left, apart_lent, apart_then}
 use Rattle.mk_market.proofs.EveryValue.{can_refuse_told, known_of, same_standing}
 use Rattle.mk_market.proofs.EveryValue.{position_allowed, position_stopped, position_kept}
 use Rattle.mk_market.proofs.Growing.{is_open}
-use Rattle.mk_market.proofs.Lent.{in_range}
+use Rattle.mk_market.proofs.Lent.{in_range, names_stay}
 use Rattle.mk_market.proofs.Quotes.{kept_unquoted, answered_learnt}
 use Rattle.mk_market.proofs.Refiled.{refiled}
 use Rattle.mk_market.proofs.Replies.{answered_refused, by_record, none_appended}
@@ -24,7 +25,7 @@ pub returns-in_err-request : goal.returns-in_err-request
 returns-in_err-request g c =
     let i = c.self.inside in
     let command = Position c.args.name.now c.args.variable.now c.args.condition.now in
-    answered_refused _ c.args.self.now _ c.self.view_is command tt c.in_err-request.field-0.0
+    answered_refused _ c.args.self.now _ c.self.view_is (each_owns _ _ c.self.invariant.named) command tt c.in_err-request.field-0.0
     c.from_residual.result c.from_residual.ensures.1
     (by_record (market_of i.file) i.journal.history command c.in_err-request.field-0.0
     (c.in_err-request.ensures.refusal c.args.condition.now (sym c.as_slice-words.ensures.value)))
@@ -116,7 +117,10 @@ returns-in-Some g c =
     let question = question_for i.file H c.args.variable.now c.as_slice-words.result.now
     c.args.condition.now spread c.as_slice-words.ensures.value found.ensures.question in
     let none = found.ensures.refusal c.args.condition.now (sym c.as_slice-words.ensures.value) in
-    rw (← c.self.view_is) (answered_learnt i.file i.ledger i.journal i.users c.learn.new.users c.learn.ensures.quotes _ command (Sure c.in-Some.intervals) (record {
+    let lent = apart_lent c.learn.new.users found.request.user c.position_of.new.assets in
+    rw (← c.self.view_is) (answered_learnt i.file i.ledger i.journal i.users c.learn.new.users c.learn.ensures.quotes _ command (Sure c.in-Some.intervals)
+    (others_left H c.args.name.now found.request.user found.ensures.user i.users _
+    (apart_then found.request.user i.users c.learn.new.users _ c.learn.ensures.apart lent)) (record {
       market = refl;
       allowed = λ sound. position_allowed i.file (standing_of i.journal c.learn.new.users) c.args.variable.now
           c.args.condition.now spread question
@@ -129,6 +133,10 @@ returns-in-Some g c =
           ∙ none_appended (market_of i.file) (standing_of i.journal c.learn.new.users) command
           (Sure c.in-Some.intervals) refl refl;
       paid = λ u. refl;
+      one_each = each_owns _ (users H)
+          (names_stay c.learn.new.users found.request.user c.position_of.new.assets ∙ kept.named);
+      others = others_left H c.args.name.now found.request.user found.ensures.user
+          c.learn.new.users _ lent;
     }))
 
 pub returns-in-None : goal.returns-in-None
@@ -158,7 +166,10 @@ returns-in-None g c =
     (c.in-None.ensures.position i.file.tree H i.file.max_trades found.request.user
     (c.learn.ensures.learnt c.assets.result.now c.assets.ensures.value) opened
     kept.safe.bounded.few_trades found.ensures.question.answered) in
-    rw (← c.self.view_is) (answered_learnt i.file i.ledger i.journal i.users c.learn.new.users c.learn.ensures.quotes _ command (Refused c.refuse_condition.result) (record {
+    let lent = apart_lent c.learn.new.users found.request.user c.position_of.new.assets in
+    rw (← c.self.view_is) (answered_learnt i.file i.ledger i.journal i.users c.learn.new.users c.learn.ensures.quotes _ command (Refused c.refuse_condition.result)
+    (others_left H c.args.name.now found.request.user found.ensures.user i.users _
+    (apart_then found.request.user i.users c.learn.new.users _ c.learn.ensures.apart lent)) (record {
       market = refl;
       allowed = λ sound. position_stopped i.file (standing_of i.journal c.learn.new.users) c.args.variable.now
           c.args.condition.now spread question
@@ -170,4 +181,8 @@ returns-in-None g c =
           ∙ none_appended (market_of i.file) (standing_of i.journal c.learn.new.users) command
           (Refused c.refuse_condition.result) refl refl;
       paid = λ u. refl;
+      one_each = each_owns _ (users H)
+          (names_stay c.learn.new.users found.request.user c.position_of.new.assets ∙ kept.named);
+      others = others_left H c.args.name.now found.request.user found.ensures.user
+          c.learn.new.users _ lent;
     }))

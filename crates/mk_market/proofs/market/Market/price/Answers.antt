@@ -4,6 +4,7 @@ use Rattle.mk_file.specs.MarketOf.{market_of}
 use Rattle.mk_beliefs.specs.Meanings.{weights_of}
 use Rattle.mk_net.specs.Events.{pairs_asked}
 use Rattle.mk_tree.proofs.Held.{home_is_held}
+use Rattle.mk_market.proofs.Apart.{each_owns}
 use Rattle.mk_market.proofs.Growing.{is_open}
 use Rattle.mk_market.proofs.Replies.{answered_refused, by_record}
 use Rattle.mk_market.proofs.Answers.{price_allowed, price_next}
@@ -13,7 +14,7 @@ use Rattle.mk_market.proofs.market.Market.price.Goals as goal
 pub returns-in_err-asked : goal.returns-in_err-asked
 returns-in_err-asked g c =
     let i = c.self.inside in
-    answered_refused _ c.args.self.now _ c.self.view_is (Price c.args.question.now) tt c.in_err-asked.field-0.0 c.from_residual.result
+    answered_refused _ c.args.self.now _ c.self.view_is (each_owns _ _ c.self.invariant.named) (Price c.args.question.now) tt c.in_err-asked.field-0.0 c.from_residual.result
     c.from_residual.ensures.1 (by_record (market_of i.file) i.journal.history (Price c.args.question.now) c.in_err-asked.field-0.0 c.in_err-asked.ensures.refusal)
 
 pub price_of-requires : goal.price_of-requires
@@ -51,6 +52,8 @@ returns-in-Some g c =
           (c.in-Some.price.0) (c.in-Some.price.1) c.in_ok-asked.ensures.refusal c.in-Some.ensures.price;
       next = price_next g.P.Engine.stands_for g.A.Engine.stands_for g.A.Engine.plan_for _ _ _ _ _ _ _ _ _ c.self.invariant c.args.question.now (c.in-Some.price.0) (c.in-Some.price.1);
       paid = λ u. refl;
+      one_each = each_owns _ _ c.self.invariant.named;
+      others = λ u name at differs. refl;
     })
 
 pub returns-in-None : goal.returns-in-None
@@ -60,7 +63,7 @@ returns-in-None g c =
     let opened = is_open g.P.Engine.stands_for g.A.Engine.stands_for g.A.Engine.plan_for i.file i.prices i.rows i.plan i.users i.ledger i.journal i.payments i.till c.self.invariant in
     let price = c.in-None.ensures.price i.file.tree i.journal.history i.file.max_trades c.self.invariant.prices_stand opened
     c.self.invariant.safe.bounded.few_trades found.ensures.question.answered in
-    rw (← c.self.view_is) (price_stopped i.file i.ledger i.journal i.users i.users refl
+    rw (← c.self.view_is) (price_stopped i.file i.ledger i.journal i.users i.users refl c.self.invariant.named refl
     c.args.question.now c.refuse_condition.result found.ensures.refusal
     (impossible_by i.file.net i.journal.history c.args.question.now found.asked
     (record { named = found.ensures.question.named; known = price_known i.file i.journal.history c.args.question.now found.ensures.refusal })

@@ -9,6 +9,7 @@ use Rattle.mk_rules.proofs.Unrefused.{none_applies}
 use Rattle.mk_rules.proofs.Spreads.{spread_parts}
 use Rattle.mk_market.specs.inner.Keeping.{standing_of}
 use Rattle.mk_market.specs.inner.Stopped.{IsConditionBy}
+use Rattle.mk_market.proofs.Apart.{each_owns}
 use Rattle.mk_market.proofs.EveryValue.{can_refuse_told, known_of, prices_allowed, prices_stopped}
 use Rattle.mk_market.proofs.Growing.{is_open}
 use Rattle.mk_market.proofs.Replies.{answered_refused, by_record, none_appended}
@@ -19,7 +20,7 @@ use Rattle.mk_market.proofs.market.Market.prices.Goals as goal
 pub returns-in_err-asked : goal.returns-in_err-asked
 returns-in_err-asked g c =
     let i = c.self.inside in let command = Prices c.args.variable.now c.args.condition.now in
-    answered_refused _ c.args.self.now _ c.self.view_is command tt c.in_err-asked.field-0.0
+    answered_refused _ c.args.self.now _ c.self.view_is (each_owns _ _ c.self.invariant.named) command tt c.in_err-asked.field-0.0
     c.from_residual.result c.from_residual.ensures.1
     (by_record (market_of i.file) i.journal.history command c.in_err-asked.field-0.0
     (c.in_err-asked.ensures.refusal c.args.condition.now (sym c.as_slice-words.ensures.value)))
@@ -79,6 +80,8 @@ returns-in-Some g c =
       next = none_appended (market_of i.file) (standing_of i.journal i.users) command
           (Told c.in-Some.intervals) refl refl;
       paid = λ u. refl;
+      one_each = each_owns _ _ c.self.invariant.named;
+      others = λ u name at differs. refl;
     })
 
 pub returns-in-None : goal.returns-in-None
@@ -114,4 +117,6 @@ returns-in-None g c =
       next = none_appended (market_of i.file) (standing_of i.journal i.users) command
           (Refused c.refuse_condition.result) refl refl;
       paid = λ u. refl;
+      one_each = each_owns _ _ c.self.invariant.named;
+      others = λ u name at differs. refl;
     })

@@ -6,7 +6,9 @@ use Rattle.mk_command.specs.declared.command.Command.TheVariants.{Resolve}
 use Rattle.mk_reply.specs.declared.refusal.Refusal.TheVariants.{Impossible}
 use Rattle.mk_reply.specs.declared.reply.Reply.TheVariants.{Resolved}
 use Rattle.mk_market.specs.inner.Keeping.{standing_of}
-use Rattle.mk_market.proofs.Replies.{refused_stays, nothing_added}
+use Rattle.mk_exact.specs.History.{Resolve as Resolves}
+use Rattle.mk_market.proofs.Apart.{each_owns, each_owns_then}
+use Rattle.mk_market.proofs.Replies.{answered_refused, by_record, refused_stays, nothing_added}
 use Rattle.mk_market.proofs.Resolved.{has_home, can_ask, few_known, unrefused_where}
 use Rattle.mk_market.proofs.Resolved.{never_answered, asked_kept, resolution_allowed}
 use Rattle.mk_market.proofs.Resolved.{resolution_next, resolution_kept}
@@ -60,6 +62,14 @@ invariant_of-self-2 g c =
     c.know.new.self c.know-2.new.self c.resolve.new.self c.resolve.ensures.history (record { trades = c.resolve.ensures.limit; users = c.resolve.ensures.users; transfers = c.resolve.ensures.transfers })
     (λ (m : Meaning) stands. c.know.ensures m (c.can_come.ensures.kept m stands)) c.know-2.ensures)
 
+pub returns-in_err-pair : goal.returns-in_err-pair
+returns-in_err-pair g c =
+    let i = c.self.inside in
+    answered_refused _ c.args.self.now _ c.self.view_is (each_owns _ _ c.self.invariant.named)
+    (Resolve c.args.words.now) tt c.in_err-pair.field-0.0 c.from_residual.result
+    c.from_residual.ensures.1 (by_record (market_of i.file) i.journal.history
+    (Resolve c.args.words.now) c.in_err-pair.field-0.0 c.in_err-pair.ensures.refusal)
+
 pub returns-then-not-can_come : goal.returns-then-not-can_come
 returns-then-not-can_come g c =
     rw (← c.self.view_is) (record {
@@ -68,6 +78,8 @@ returns-then-not-can_come g c =
           c.in_ok-pair.ensures.named c.in_ok-pair.ensures.pair c.in_ok-pair.ensures.refusal c.can_come.result c.can_come.ensures.found c.if-not-can_come.true;
       next = refused_stays (market_of c.self.inside.file) (standing_of c.self.inside.journal c.self.inside.users) (Resolve c.args.words.now) (Impossible c.args.words.now) tt;
       paid = λ u. refl;
+      one_each = each_owns _ _ c.self.invariant.named;
+      others = λ u name at differs. refl;
     })
 
 pub returns : goal.returns
@@ -87,4 +99,7 @@ returns g c =
           c.in_ok-pair.ensures.named c.in_ok-pair.ensures.pair c.in_ok-pair.ensures.refusal c.can_come.result c.can_come.ensures.found c.if-not-can_come.false)
           c.resolve.new.self c.resolve.ensures.history c.revision.result;
       paid = λ u. refl;
+      one_each = each_owns_then c.self.inside.users c.self.inside.journal.history _
+          (Resolves c.in_ok-pair.pair) c.self.invariant.named c.resolve.ensures.history refl;
+      others = λ u name at differs. refl;
     })

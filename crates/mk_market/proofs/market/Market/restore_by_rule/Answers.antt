@@ -39,7 +39,7 @@ book-requires-clause-one_each g c =
 
 pub book-requires-clause-unpaid : goal.book-requires-clause-unpaid
 book-requires-clause-unpaid g c =
-    let can = subst (λ (t : Trading). CanBeSettled t.market.network t.standing.history) (sym c.self.view_is) c.requires.can in
+    let can = subst (λ (t : Trading _). CanBeSettled t.market.network t.standing.history) (sym c.self.view_is) c.requires.can in
     unpaid_before (market_of c.self.inside.file) c.self.inside.journal.history c.self.inside.ledger.accounts can.unsettled
     c.self.invariant.accounts_kept
 
@@ -64,9 +64,9 @@ invariant_of-self-2 g c =
     let H = c.self.inside.journal.history in
     let market = market_of c.self.inside.file in
     let paid = payments_by_rule c.self.inside.file.net H c.self.inside.file.points_per_bit in
-    let can = subst (λ (t : Trading). CanBeSettled t.market.network t.standing.history) (sym c.self.view_is) c.requires.can in
-    let none = subst (λ (t : Trading). None ≡ first_refusal t.market t.standing.history Settle) (sym c.self.view_is) c.requires.unrefused in
-    let many = subst (λ (t : Trading). max_payments < length (users t.standing.history)) (sym c.self.view_is) c.requires.many in
+    let can = subst (λ (t : Trading _). CanBeSettled t.market.network t.standing.history) (sym c.self.view_is) c.requires.can in
+    let none = subst (λ (t : Trading _). None ≡ first_refusal t.market t.standing.history Settle) (sym c.self.view_is) c.requires.unrefused in
+    let many = subst (λ (t : Trading _). max_payments < length (users t.standing.history)) (sym c.self.view_is) c.requires.many in
     let in_till = ap (λ (t : TillOf). t.payments) c.pay_all_by_rule.ensures in
     let history : c.settle.new.self.history ≡ H ++ Settles paid ∷ [] =
     c.settle.ensures.history ∙ ap (λ (ps : List (ℕ × ℕ)). H ++ Settles ps ∷ []) (c.into_payments.ensures ∙ in_till) in
@@ -84,7 +84,7 @@ pub returns-then-not-tells_total : goal.returns-then-not-tells_total
 returns-then-not-tells_total g c =
     let H = c.self.inside.journal.history in
     let market = market_of c.self.inside.file in
-    let many = subst (λ (t : Trading). max_payments < length (users t.standing.history)) (sym c.self.view_is) c.requires.many in
+    let many = subst (λ (t : Trading _). max_payments < length (users t.standing.history)) (sym c.self.view_is) c.requires.many in
     let total = c.total.ensures ∙ ap (λ (t : TillOf). paid_in_all t.payments) c.pay_all_by_rule.ensures in
     rw (← c.self.view_is) (record {
       same = refl;
@@ -100,9 +100,9 @@ returns g c =
     let H = c.self.inside.journal.history in
     let market = market_of c.self.inside.file in
     let paid = payments_by_rule c.self.inside.file.net H c.self.inside.file.points_per_bit in
-    let can = subst (λ (t : Trading). CanBeSettled t.market.network t.standing.history) (sym c.self.view_is) c.requires.can in
-    let none = subst (λ (t : Trading). None ≡ first_refusal t.market t.standing.history Settle) (sym c.self.view_is) c.requires.unrefused in
-    let many = subst (λ (t : Trading). max_payments < length (users t.standing.history)) (sym c.self.view_is) c.requires.many in
+    let can = subst (λ (t : Trading _). CanBeSettled t.market.network t.standing.history) (sym c.self.view_is) c.requires.can in
+    let none = subst (λ (t : Trading _). None ≡ first_refusal t.market t.standing.history Settle) (sym c.self.view_is) c.requires.unrefused in
+    let many = subst (λ (t : Trading _). max_payments < length (users t.standing.history)) (sym c.self.view_is) c.requires.many in
     let in_till = ap (λ (t : TillOf). t.payments) c.pay_all_by_rule.ensures in
     let history : c.settle.new.self.history ≡ H ++ Settles paid ∷ [] =
     c.settle.ensures.history ∙ ap (λ (ps : List (ℕ × ℕ)). H ++ Settles ps ∷ []) (c.into_payments.ensures ∙ in_till) in

@@ -23,7 +23,7 @@ use Rattle.mk_market.proofs.market.Market.restore_listed.Goals as goal
 
 pub book-requires-clause-unpaid : goal.book-requires-clause-unpaid
 book-requires-clause-unpaid g c =
-    let can = subst (λ (t : Trading). CanBeSettled t.market.network t.standing.history) (sym c.self.view_is) c.requires.can in
+    let can = subst (λ (t : Trading _). CanBeSettled t.market.network t.standing.history) (sym c.self.view_is) c.requires.can in
     unpaid_before (market_of c.self.inside.file) c.self.inside.journal.history c.self.inside.ledger.accounts can.unsettled
     c.self.invariant.accounts_kept
 
@@ -53,9 +53,9 @@ invariant_of-self g c =
     let paid = map ends_of pays in
     let told = subst IsReply c.in-Some.ensures.some c.requires.told in
     let fit = read_fit pays (recursion_from_All IsReadPayment pays told.1.each) in
-    let can = subst (λ (t : Trading). CanBeSettled t.market.network t.standing.history) (sym c.self.view_is) c.requires.can in
-    let none = subst (λ (t : Trading). None ≡ first_refusal t.market t.standing.history Settle) (sym c.self.view_is) c.requires.unrefused in
-    let few = subst (λ (t : Trading). length (users t.standing.history) ≤ max_payments) (sym c.self.view_is) c.requires.few in
+    let can = subst (λ (t : Trading _). CanBeSettled t.market.network t.standing.history) (sym c.self.view_is) c.requires.can in
+    let none = subst (λ (t : Trading _). None ≡ first_refusal t.market t.standing.history Settle) (sym c.self.view_is) c.requires.unrefused in
+    let few = subst (λ (t : Trading _). length (users t.standing.history) ≤ max_payments) (sym c.self.view_is) c.requires.few in
     let in_till = ap (λ (t : TillOf). t.payments) c.list.ensures ∙ ap (map ends_of) c.rows.ensures.same in
     let history : c.settle.new.self.history ≡ H ++ Settles paid ∷ [] =
     c.settle.ensures.history ∙ ap (λ (ps : List (ℕ × ℕ)). H ++ Settles ps ∷ []) (c.into_payments.ensures ∙ in_till) in
@@ -77,9 +77,9 @@ returns g c =
     let paid = map ends_of pays in
     let told = subst IsReply c.in-Some.ensures.some c.requires.told in
     let fit = read_fit pays (recursion_from_All IsReadPayment pays told.1.each) in
-    let can = subst (λ (t : Trading). CanBeSettled t.market.network t.standing.history) (sym c.self.view_is) c.requires.can in
-    let none = subst (λ (t : Trading). None ≡ first_refusal t.market t.standing.history Settle) (sym c.self.view_is) c.requires.unrefused in
-    let few = subst (λ (t : Trading). length (users t.standing.history) ≤ max_payments) (sym c.self.view_is) c.requires.few in
+    let can = subst (λ (t : Trading _). CanBeSettled t.market.network t.standing.history) (sym c.self.view_is) c.requires.can in
+    let none = subst (λ (t : Trading _). None ≡ first_refusal t.market t.standing.history Settle) (sym c.self.view_is) c.requires.unrefused in
+    let few = subst (λ (t : Trading _). length (users t.standing.history) ≤ max_payments) (sym c.self.view_is) c.requires.few in
     let in_till = ap (λ (t : TillOf). t.payments) c.list.ensures ∙ ap (map ends_of) c.rows.ensures.same in
     let history : c.settle.new.self.history ≡ H ++ Settles paid ∷ [] =
     c.settle.ensures.history ∙ ap (λ (ps : List (ℕ × ℕ)). H ++ Settles ps ∷ []) (c.into_payments.ensures ∙ in_till) in

@@ -21,6 +21,7 @@ use Rattle.mk_replay.specs.Tills.{TillOf}
 use Rattle.mk_market.specs.Trading.{Trading}
 use Rattle.mk_market.specs.inner.Keeping.{standing_of}
 use Rattle.mk_market.specs.inner.Paying.{ArePaid}
+use Rattle.mk_market.proofs.Apart.{each_owns_then}
 use Rattle.mk_market.proofs.Fitting.{lows_fit, highs_fit, rule_count}
 use Rattle.mk_market.proofs.Replies.{answer_allowed}
 use Rattle.mk_market.proofs.Settlement.{settlement_next, settlement_kept, settled_at, summed_agrees, summed_settles, unpaid_before}
@@ -41,7 +42,7 @@ book-requires-clause-one_each g c =
 
 pub book-requires-clause-unpaid : goal.book-requires-clause-unpaid
 book-requires-clause-unpaid g c =
-    let can = subst (λ (t : Trading). CanBeSettled t.market.network t.standing.history) (sym c.self.view_is) c.requires.can in
+    let can = subst (λ (t : Trading _). CanBeSettled t.market.network t.standing.history) (sym c.self.view_is) c.requires.can in
     unpaid_before (market_of c.self.inside.file) c.self.inside.journal.history c.self.inside.ledger.accounts can.unsettled
     c.self.invariant.accounts_kept
 
@@ -66,9 +67,9 @@ invariant_of-self g c =
     let H = c.self.inside.journal.history in
     let market = market_of c.self.inside.file in
     let paid = payments_by_rule c.self.inside.file.net H c.self.inside.file.points_per_bit in
-    let can = subst (λ (t : Trading). CanBeSettled t.market.network t.standing.history) (sym c.self.view_is) c.requires.can in
-    let none = subst (λ (t : Trading). None ≡ first_refusal t.market t.standing.history Settle) (sym c.self.view_is) c.requires.unrefused in
-    let many = subst (λ (t : Trading). max_payments < length (users t.standing.history)) (sym c.self.view_is) c.requires.many in
+    let can = subst (λ (t : Trading _). CanBeSettled t.market.network t.standing.history) (sym c.self.view_is) c.requires.can in
+    let none = subst (λ (t : Trading _). None ≡ first_refusal t.market t.standing.history Settle) (sym c.self.view_is) c.requires.unrefused in
+    let many = subst (λ (t : Trading _). max_payments < length (users t.standing.history)) (sym c.self.view_is) c.requires.many in
     let in_till = ap (λ (t : TillOf). t.payments) c.pay_all_by_rule.ensures in
     let history : c.settle.new.self.history ≡ H ++ Settles paid ∷ [] =
     c.settle.ensures.history ∙ ap (λ (ps : List (ℕ × ℕ)). H ++ Settles ps ∷ []) (c.into_payments.ensures ∙ in_till) in
@@ -87,9 +88,9 @@ returns g c =
     let H = c.self.inside.journal.history in
     let market = market_of c.self.inside.file in
     let paid = payments_by_rule c.self.inside.file.net H c.self.inside.file.points_per_bit in
-    let can = subst (λ (t : Trading). CanBeSettled t.market.network t.standing.history) (sym c.self.view_is) c.requires.can in
-    let none = subst (λ (t : Trading). None ≡ first_refusal t.market t.standing.history Settle) (sym c.self.view_is) c.requires.unrefused in
-    let many = subst (λ (t : Trading). max_payments < length (users t.standing.history)) (sym c.self.view_is) c.requires.many in
+    let can = subst (λ (t : Trading _). CanBeSettled t.market.network t.standing.history) (sym c.self.view_is) c.requires.can in
+    let none = subst (λ (t : Trading _). None ≡ first_refusal t.market t.standing.history Settle) (sym c.self.view_is) c.requires.unrefused in
+    let many = subst (λ (t : Trading _). max_payments < length (users t.standing.history)) (sym c.self.view_is) c.requires.many in
     let in_till = ap (λ (t : TillOf). t.payments) c.pay_all_by_rule.ensures in
     let history : c.settle.new.self.history ≡ H ++ Settles paid ∷ [] =
     c.settle.ensures.history ∙ ap (λ (ps : List (ℕ × ℕ)). H ++ Settles ps ∷ []) (c.into_payments.ensures ∙ in_till) in
@@ -106,4 +107,7 @@ returns g c =
       next = settlement_next g.P.Engine.stands_for g.A.Engine.stands_for g.A.Engine.plan_for _ _ _ _ _ _ _ _ _ c.self.invariant can none
           (SettledAll c.revision.result c.joined.result c.total-total.result) paid refl c.self.inside.users c.settle.new.self history refl;
       paid = tt;
+      one_each = each_owns_then c.self.inside.users H c.settle.new.self.history (Settles paid)
+          c.self.invariant.named history refl;
+      others = λ u name at differs. refl;
     })

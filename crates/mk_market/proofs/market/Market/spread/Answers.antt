@@ -14,6 +14,7 @@ use Rattle.mk_reply.specs.declared.reply.Reply.TheVariants.{Spreaded}
 use Rattle.mk_record.specs.Members.{quotes_of}
 use Rattle.mk_market.specs.inner.Quoting.{IsTaken, IsTurnedDown, CanBeMade}
 use Rattle.mk_market.specs.inner.Stopped.{IsRefusedFor}
+use Rattle.mk_market.proofs.Apart.{each_owns, apart_then}
 use Rattle.mk_market.proofs.Growing.{is_open}
 use Rattle.mk_market.proofs.Refiled.{refiled}
 use Rattle.mk_market.proofs.Replies.{by_record, unsettled}
@@ -27,7 +28,7 @@ use Rattle.mk_market.proofs.market.Market.spread.Goals as goal
 pub returns-in_err-request : goal.returns-in_err-request
 returns-in_err-request g c =
     let command = Spread c.args.name.now c.args.variable.now c.args.condition.now c.args.to.now c.args.at in
-    spread_refused_answered _ c.args.self.now _ c.self.view_is c.args.name.now c.args.variable.now
+    spread_refused_answered _ c.args.self.now _ c.self.view_is (each_owns _ _ c.self.invariant.named) c.args.name.now c.args.variable.now
     c.args.condition.now c.args.to.now c.args.at c.in_err-request.field-0.0
     c.from_residual.result
     c.from_residual.ensures.1
@@ -131,7 +132,8 @@ returns-in-Err g c =
     (stopped_answered g.P.Engine.stands_for g.A.Engine.stands_for g.A.Engine.plan_for i.file i.prices i.rows i.plan i.users i.ledger i.journal i.payments i.till c.self.invariant
     c.refuse_stopped.new.prices made.new.users c.args.name.now found.request.user found.ensures.user
     c.args.variable.now c.args.condition.now spread question c.args.to.now c.args.at none
-    c.in-Err.why c.refuse_stopped.result down refused)
+    c.in-Err.why c.refuse_stopped.result down refused
+    (record { named = c.in-Err.ensures.names ∙ c.self.invariant.named; apart = c.in-Err.ensures.apart }))
 
 pub ratio_of_spread-ratio-requires-clause-of_values : goal.ratio_of_spread-ratio-requires-clause-of_values
 ratio_of_spread-ratio-requires-clause-of_values g c =
@@ -258,4 +260,9 @@ returns g c =
     found.ensures.user c.args.variable.now c.args.condition.now spread question judged.quote
     judged.judge.its
     c.args.to.now factors judged.is_inside.fair i.users c.trade.new.users c.trade.new.journal c.args.at none judged.is_inside.inside judged.judge.last history quotes
-    c.revision.result c.revision.ensures i.ledger)
+    c.revision.result c.revision.ensures i.ledger
+    (record {
+      named = c.trade.ensures.names ∙ c.in-Ok.ensures.names ∙ c.self.invariant.named;
+      apart = apart_then found.request.user i.users made.new.users c.trade.new.users
+          c.in-Ok.ensures.apart c.trade.ensures.apart;
+    }))

@@ -12,7 +12,7 @@ use Rattle.mk_market.proofs.market.Market.total_by_rule.Goals as goal
 
 pub pay_all_by_rule-requires-clause-can : goal.pay_all_by_rule-requires-clause-can
 pay_all_by_rule-requires-clause-can g c = can_be_settled (market_of c.self.inside.file) c.self.inside.journal.history
-    (subst (λ (t : Trading). None ≡ first_refusal t.market t.standing.history Settle) (sym c.self.view_is) c.requires.unrefused)
+    (subst (λ (t : Trading _). None ≡ first_refusal t.market t.standing.history Settle) (sym c.self.view_is) c.requires.unrefused)
 
 pub total-total-requires : goal.total-total-requires
 total-total-requires g c =

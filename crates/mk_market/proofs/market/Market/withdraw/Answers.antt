@@ -1,10 +1,11 @@
 use Rattle.std.proofs.Common.{refl, ◌∙◌}
-use Rattle.mk_exact.specs.History.{users}
+use Rattle.mk_exact.specs.History.{Withdraw as Withdraws, users}
 use Rattle.mk_command.specs.declared.command.Command.TheVariants.{Withdraw}
 use Rattle.mk_reply.specs.declared.refusal.Refusal.TheVariants.{Short}
 use Rattle.mk_reply.specs.declared.reply.Reply.TheVariants.{Refused, Withdrawn}
 use Rattle.mk_file.specs.MarketOf.{market_of}
-use Rattle.mk_market.proofs.Lent.{in_range}
+use Rattle.mk_market.proofs.Apart.{each_owns, each_owns_then, others_left, apart_lent, apart_then}
+use Rattle.mk_market.proofs.Lent.{in_range, names_stay}
 use Rattle.mk_market.proofs.Quotes.{kept_unquoted, answered_learnt}
 use Rattle.mk_market.proofs.Replies.{answered_refused}
 use Rattle.mk_market.proofs.Worsts.{can_find, worst_kept}
@@ -15,7 +16,7 @@ use Rattle.mk_market.proofs.market.Market.withdraw.Goals as goal
 
 pub returns-in_err-user : goal.returns-in_err-user
 returns-in_err-user g c =
-    answered_refused _ c.args.self.now _ c.self.view_is (Withdraw c.args.name.now c.args.bits) tt c.in_err-user.field-0.0 c.from_residual.result
+    answered_refused _ c.args.self.now _ c.self.view_is (each_owns _ _ c.self.invariant.named) (Withdraw c.args.name.now c.args.bits) tt c.in_err-user.field-0.0 c.from_residual.result
     c.from_residual.ensures.1 (c.in_err-user.ensures.withdrawal (market_of c.self.inside.file) c.self.invariant.max_transfers)
 
 pub assets-assets-requires : goal.assets-assets-requires
@@ -44,7 +45,11 @@ returns-then-bits-most g c =
     let i = c.self.inside in
     let kept = kept_unquoted g.P.Engine.stands_for g.A.Engine.stands_for g.A.Engine.plan_for i.file i.prices i.prices i.rows i.plan i.users c.learn.new.users i.ledger i.journal i.payments i.till
     c.self.invariant (λ m stands. stands) c.learn.ensures.names c.learn.ensures.quotes c.learn.ensures.held in
-    rw (← c.self.view_is) (answered_learnt i.file i.ledger i.journal i.users c.learn.new.users c.learn.ensures.quotes _ (Withdraw c.args.name.now c.args.bits) (Refused (Short c.most_bits-most.result)) (record {
+    let found = c.in_ok-user in
+    let lent = apart_lent c.learn.new.users found.user c.least_of.new.assets in
+    rw (← c.self.view_is) (answered_learnt i.file i.ledger i.journal i.users c.learn.new.users c.learn.ensures.quotes _ (Withdraw c.args.name.now c.args.bits) (Refused (Short c.most_bits-most.result))
+    (others_left i.journal.history c.args.name.now found.user found.ensures.user i.users _
+    (apart_then found.user i.users c.learn.new.users _ c.learn.ensures.apart lent)) (record {
       market = refl;
       allowed = λ sound. short_allowed g.P.Engine.stands_for g.A.Engine.stands_for g.A.Engine.plan_for _ _ _ _ _ _ _ _ _ kept c.args.name.now c.in_ok-user.user c.args.bits c.in_ok-user.ensures.user c.in_ok-user.ensures.room
           c.assets-assets.result.now c.least_of.new.assets c.assets-assets.ensures.value c.least_of.ensures.kept c.learn.ensures.learnt
@@ -53,6 +58,10 @@ returns-then-bits-most g c =
       next = short_next g.P.Engine.stands_for g.A.Engine.stands_for g.A.Engine.plan_for _ _ _ _ _ _ _ _ _ kept c.args.name.now c.in_ok-user.user c.args.bits c.in_ok-user.ensures.user c.in_ok-user.ensures.room
           c.assets-assets.result.now c.least_of.new.assets c.assets-assets.ensures.value c.least_of.ensures.kept c.least_of.new.assets c.most_bits-most.result;
       paid = λ u. refl;
+      one_each = each_owns _ (users i.journal.history)
+          (names_stay c.learn.new.users found.user c.least_of.new.assets ∙ kept.named);
+      others = others_left i.journal.history c.args.name.now found.user found.ensures.user
+          c.learn.new.users _ lent;
     }))
 
 pub withdraw-requires : goal.withdraw-requires
@@ -86,7 +95,11 @@ returns g c =
     let i = c.self.inside in
     let kept = kept_unquoted g.P.Engine.stands_for g.A.Engine.stands_for g.A.Engine.plan_for i.file i.prices i.prices i.rows i.plan i.users c.learn.new.users i.ledger i.journal i.payments i.till
     c.self.invariant (λ m stands. stands) c.learn.ensures.names c.learn.ensures.quotes c.learn.ensures.held in
-    rw (← c.self.view_is) (answered_learnt i.file i.ledger i.journal i.users c.learn.new.users c.learn.ensures.quotes _ (Withdraw c.args.name.now c.args.bits) (Withdrawn c.args.name.now c.args.bits c.revision.result) (record {
+    let found = c.in_ok-user in
+    let lent = apart_lent c.learn.new.users found.user c.withdraw.new.self in
+    rw (← c.self.view_is) (answered_learnt i.file i.ledger i.journal i.users c.learn.new.users c.learn.ensures.quotes _ (Withdraw c.args.name.now c.args.bits) (Withdrawn c.args.name.now c.args.bits c.revision.result)
+    (others_left i.journal.history c.args.name.now found.user found.ensures.user i.users _
+    (apart_then found.user i.users c.learn.new.users _ c.learn.ensures.apart lent)) (record {
       market = refl;
       allowed = λ sound. withdrawal_allowed g.P.Engine.stands_for g.A.Engine.stands_for g.A.Engine.plan_for _ _ _ _ _ _ _ _ _ kept c.args.name.now c.in_ok-user.user c.args.bits c.in_ok-user.ensures.user c.in_ok-user.ensures.room
           c.assets-assets.result.now c.least_of.new.assets c.assets-assets.ensures.value c.least_of.ensures.kept c.learn.ensures.learnt
@@ -100,4 +113,9 @@ returns g c =
           _ _ _ _ _ kept c.args.name.now c.in_ok-user.user c.args.bits
           c.in_ok-user.ensures.user c.in_ok-user.ensures.room
           c.withdraw-2.new.self c.withdraw-2.ensures c.revision.result;
+      one_each = each_owns_then _ i.journal.history _ (Withdraws found.user c.args.bits)
+          (names_stay c.learn.new.users found.user c.withdraw.new.self ∙ kept.named)
+          c.withdraw-3.ensures.history refl;
+      others = others_left i.journal.history c.args.name.now found.user found.ensures.user
+          c.learn.new.users _ lent;
     }))

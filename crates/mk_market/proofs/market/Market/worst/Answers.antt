@@ -3,7 +3,8 @@ use Rattle.mk_exact.specs.History.{users}
 use Rattle.mk_command.specs.declared.command.Command.TheVariants.{Worst}
 use Rattle.mk_reply.specs.declared.reply.Reply.TheVariants.{Worst as Worsted}
 use Rattle.mk_file.specs.MarketOf.{market_of}
-use Rattle.mk_market.proofs.Lent.{in_range}
+use Rattle.mk_market.proofs.Apart.{each_owns, others_left, apart_lent, apart_then}
+use Rattle.mk_market.proofs.Lent.{in_range, names_stay}
 use Rattle.mk_market.proofs.Quotes.{kept_unquoted, answered_learnt}
 use Rattle.mk_market.proofs.Replies.{answered_refused}
 use Rattle.mk_market.proofs.Worsts.{can_find, worst_allowed, worst_next, worst_kept}
@@ -11,7 +12,7 @@ use Rattle.mk_market.proofs.market.Market.worst.Goals as goal
 
 pub returns-in_err-user : goal.returns-in_err-user
 returns-in_err-user g c =
-    answered_refused _ c.args.self.now _ c.self.view_is (Worst c.args.name.now) tt c.in_err-user.field-0.0 c.from_residual.result
+    answered_refused _ c.args.self.now _ c.self.view_is (each_owns _ _ c.self.invariant.named) (Worst c.args.name.now) tt c.in_err-user.field-0.0 c.from_residual.result
     c.from_residual.ensures.1 (c.in_err-user.ensures.refusal (market_of c.self.inside.file))
 
 pub assets-requires : goal.assets-requires
@@ -40,7 +41,10 @@ returns g c =
     let kept = kept_unquoted g.P.Engine.stands_for g.A.Engine.stands_for g.A.Engine.plan_for i.file i.prices i.prices i.rows i.plan i.users c.learn.new.users i.ledger i.journal i.payments i.till
     c.self.invariant (λ m stands. stands) c.learn.ensures.names c.learn.ensures.quotes c.learn.ensures.held in
     let found = c.in_ok-user in
-    rw (← c.self.view_is) (answered_learnt i.file i.ledger i.journal i.users c.learn.new.users c.learn.ensures.quotes _ (Worst c.args.name.now) (Worsted c.cash.result.0 c.cash.result.1) (record {
+    let lent = apart_lent c.learn.new.users found.user c.least_of-factor.new.assets in
+    rw (← c.self.view_is) (answered_learnt i.file i.ledger i.journal i.users c.learn.new.users c.learn.ensures.quotes _ (Worst c.args.name.now) (Worsted c.cash.result.0 c.cash.result.1)
+    (others_left i.journal.history c.args.name.now found.user found.ensures.user i.users _
+    (apart_then found.user i.users c.learn.new.users _ c.learn.ensures.apart lent)) (record {
       market = refl;
       allowed = λ sound. worst_allowed g.P.Engine.stands_for g.A.Engine.stands_for g.A.Engine.plan_for _ _ _ _ _ _ _ _ _ kept c.args.name.now found.user found.ensures.user c.assets.result.now c.least_of-factor.new.assets c.assets.ensures.value c.learn.ensures.learnt c.least_of-factor.result c.cash.result.0 c.cash.result.1
           sound (found.ensures.refusal (market_of c.self.inside.file))
@@ -48,4 +52,8 @@ returns g c =
           c.cash.ensures.covers;
       next = worst_next g.P.Engine.stands_for g.A.Engine.stands_for g.A.Engine.plan_for _ _ _ _ _ _ _ _ _ kept c.args.name.now found.user found.ensures.user c.assets.result.now c.least_of-factor.new.assets c.assets.ensures.value c.cash.result.0 c.cash.result.1;
       paid = λ u. refl;
+      one_each = each_owns _ (users i.journal.history)
+          (names_stay c.learn.new.users found.user c.least_of-factor.new.assets ∙ kept.named);
+      others = others_left i.journal.history c.args.name.now found.user found.ensures.user
+          c.learn.new.users _ lent;
     }))
