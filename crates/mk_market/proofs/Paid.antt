@@ -1,11 +1,11 @@
 -- Payments by rule are told, one after another, and are what the rules allow.
-use Rattle.std.specs.Prelude.{◌≡◌, ℕ, ◌+◌, ◌<◌, ◌≤◌, zero, suc, List, [], ◌∷◌, ◌++◌, length, map, take}
+use Rattle.std.specs.Prelude.{◌≡◌, ℕ, ◌+◌, zero, suc, List, [], ◌∷◌, ◌++◌, length, map, take}
 use Rattle.std.specs.Prelude.{Some, slice_get}
 use Rattle.std.specs.List.{AllByRecursion, AllZip, enumerate_from, range_with_len}
-use Rattle.std.proofs.Common.{refl, sym, ap, ◌∙◌, subst, arith}
+use Rattle.std.proofs.Common.{sym, ap, ◌∙◌, subst, arith}
 use Rattle.std.proofs.lemmas.List.{map-append, length_push}
 use Rattle.mk_net.specs.Bounds.{sharpness}
-use Rattle.mk_net.specs.Network.{Variable, IsNetwork}
+use Rattle.mk_net.specs.Network.{IsNetwork}
 use Rattle.mk_states.proofs.Sums.{each-append}
 use Rattle.mk_states.specs.Events.{always}
 use Rattle.mk_exact.specs.Cash.{CoversCash}
@@ -45,9 +45,6 @@ pub record AreToldBefore (names : List (List ℕ)) (rows : List Payout) (n : ℕ
   pub in_order : map (λ (p : Payment). p.user) payments ≡ take n names
   pub both_ends : map ends_of payments ≡ map ends (take n rows)
   pub low_ends : AllByRecursion (λ (p : Payment). p.paid ≡ p.low) payments
-
-pub none_told : (names : List (List ℕ)) (rows : List Payout) → AreToldBefore names rows 0 []
-none_told names rows = record { made = refl; in_order = refl; both_ends = refl; low_ends = tt }
 
 pub one_told : (names : List (List ℕ)) (rows : List Payout) (n : ℕ) (before now : List Payment)
     (payment : Payment) (row : Payout) → AreToldBefore names rows n before

@@ -1,6 +1,6 @@
 -- A market is kept with one question more.
 use Rattle.std.specs.Prelude.{◌≡◌, ℕ, ◌+◌, ◌≤◌, List, [], ◌∷◌, ◌++◌, length, false, Option}
-use Rattle.std.specs.Prelude.{Some, None, map, option_map, slice_get, ◌⊎◌}
+use Rattle.std.specs.Prelude.{Some, None, map, option_map, slice_get}
 use Rattle.std.specs.List.{AllByRecursion}
 use Rattle.std.proofs.Common.{refl, sym, ap, ap₂, ◌∙◌, subst, arith, inl, inr}
 use Rattle.std.proofs.lemmas.List.{length_push, length-map}
@@ -49,7 +49,7 @@ use Rattle.mk_market.specs.declared.adding.Regrown.{Regrown}
 use Rattle.mk_market.specs.Points.{AreAccounts}
 use Rattle.mk_market.specs.Trading.{Trading, IsAnswered}
 use Rattle.mk_market.specs.Suited.{SuitsLonger}
-use Rattle.mk_market.specs.inner.Adding.{IsLonger, HoldEach, AreRegrown, HasGrown}
+use Rattle.mk_market.specs.inner.Adding.{IsLonger, AreRegrown, HasGrown}
 use Rattle.mk_market.specs.inner.Restored.{IsTakenBack}
 use Rattle.mk_market.specs.inner.Keeping.{quoted, standing_of, IsKeptQuote, IsKept, TakesAsMuch}
 use Rattle.mk_market.proofs.Accounted.{accounts_kept}

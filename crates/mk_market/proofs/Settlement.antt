@@ -13,7 +13,6 @@ use Rattle.mk_net.specs.declared.words.Pair.{Pair}
 use Rattle.mk_exact.specs.Cash.{CoversCash}
 use Rattle.mk_states.specs.Events.{always, holds}
 use Rattle.mk_exact.specs.Factors.{Fraction, HoldsNoTrade, factor}
-use Rattle.mk_exact.specs.Sound.{IsSound}
 use Rattle.mk_states.specs.InitialWeight.{all_states, initial_weight}
 use Rattle.mk_states.specs.Ratios.{ratio_at}
 use Rattle.mk_states.specs.States.{product_by}
@@ -218,20 +217,19 @@ settled_at journal new_journal paid at history now =
     now ∙ ap (λ (H : List Entry). length H) history ∙ length_push journal.history (Settles paid)
 
 -- one state is left, and the payments that are listed are what the factors there are worth
-pub listed_settlement : (file : MarketFile) (H : List Entry) (names : List (List ℕ)) (pays : List Payment) (at : ℕ)
-    → IsNetwork file.net → IsSafe (market_of file) H → CanBeSettled file.net H → names ≡ users H → at ≡ revision H + 1 → IsSound file.net H
-    → (IsSound file.net H → (state : List ℕ) → possible_states file.net H always ≡ state ∷ []
-    → AllZip (IsPayment file.net H file.max_trades file.points_per_bit state) (enumerate_from 0 names) pays)
+pub listed_settlement : (file : MarketFile) (H : List Entry) (pays : List Payment) (at : ℕ)
+    → IsNetwork file.net → IsSafe (market_of file) H → CanBeSettled file.net H → at ≡ revision H + 1
+    → ((state : List ℕ) → possible_states file.net H always ≡ state ∷ []
+    → AllZip (IsPayment file.net H file.max_trades file.points_per_bit state) (enumerate_from 0 (users H)) pays)
     → IsSettlement file.net H file.max_trades file.points_per_bit (Settled at pays)
-listed_settlement file H names pays at legal safe can named later sound paid =
+listed_settlement file H pays at legal safe can later paid =
     let left = outcome_exists file.net H legal safe.proper can.resolved in
     record {
       state = left.state;
       one_state = left.one_state;
       payments = pays;
       printed = ap (λ (n : ℕ). Settled n pays) later;
-      paid = subst (λ (all : List (List ℕ)). AllZip (IsPayment file.net H file.max_trades file.points_per_bit left.state) (enumerate_from 0 all) pays) named
-          (paid sound left.state left.one_state);
+      paid = paid left.state left.one_state;
     }
 
 -- as many users as a settlement may list, or more, are not the other

@@ -1,5 +1,5 @@
 -- What stops a spread is refused, and leaves the market.
-use Rattle.std.specs.Prelude.{◌≡◌, ℕ, ◌+◌, ◌≤◌, ◌<◌, List, [], ◌∷◌, length, map, find, slice_index, Bool, true, false, Option, Some, None, option_map}
+use Rattle.std.specs.Prelude.{◌≡◌, ℕ, ◌+◌, ◌≤◌, ◌<◌, List, [], ◌∷◌, length, find, slice_index, Bool, true, false, Option, Some, None, option_map}
 use Rattle.std.specs.List.{enumerate_from}
 use Rattle.std.proofs.Common.{cond, sym, ap, ap₂, ◌∙◌, subst, arith}
 use Rattle.arrayvec.specs.ArrayVec.{ArrayVec}
@@ -42,8 +42,8 @@ use Rattle.mk_record.specs.declared.users.Member.{Member}
 use Rattle.mk_record.specs.Journals.{JournalOf}
 use Rattle.mk_record.specs.Members.{names_of, quotes_of}
 use Rattle.mk_record.specs.Refused.{IsUser, IsSpreadQuestionFor}
-use Rattle.mk_market.specs.Trading.{Trading, IsAnswered}
-use Rattle.mk_market.specs.inner.Keeping.{quoted, AreHeld, AreKeptQuotes, IsKept}
+use Rattle.mk_market.specs.Trading.{IsAnswered}
+use Rattle.mk_market.specs.inner.Keeping.{AreHeld, AreKeptQuotes, IsKept}
 use Rattle.mk_market.specs.inner.Quoting.{IsSpreadQuoteOf, IsTurnedDown}
 use Rattle.mk_market.specs.inner.Stopped.{IsSpreadDecidedBy, IsRefusedFor, MayStop, CanRefuseSpread}
 use Rattle.mk_market.proofs.Growing.{is_open}

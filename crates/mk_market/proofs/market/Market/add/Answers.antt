@@ -2,10 +2,8 @@ use Rattle.std.specs.Prelude.{◌≡◌, None}
 use Rattle.std.proofs.Common.{refl, sym, ap, ◌∙◌, subst}
 use Rattle.mk_exact.specs.History.{revision}
 use Rattle.mk_command.specs.declared.command.Command.TheVariants.{Add}
-use Rattle.mk_reply.specs.declared.refusal.Refusal.TheVariants.{Memory}
-use Rattle.mk_reply.specs.declared.reply.Reply.TheVariants.{Refused}
 use Rattle.mk_rules.specs.Refusals.{first_refusal}
-use Rattle.mk_market.specs.Trading.{Trading, IsAnswered}
+use Rattle.mk_market.specs.Trading.{Trading}
 use Rattle.mk_market.proofs.Apart.{each_owns}
 use Rattle.mk_market.proofs.Regrowing.{no_memory_answered, grown_answered}
 use Rattle.mk_market.proofs.Replies.{answered_refused}

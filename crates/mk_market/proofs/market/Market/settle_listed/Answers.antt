@@ -131,9 +131,8 @@ returns g c =
       market = refl;
       allowed = λ sound. answer_allowed market (standing_of i.journal i.users) Settle (Settled c.revision.result pays) none
           (listed_settles market H (Settled c.revision.result pays) few
-          (listed_settlement i.file H (users H) pays c.revision.result c.self.invariant.legal c.self.invariant.safe can
-          refl later sound
-          (λ sound state one. rule_pays i.file H c.self.invariant.legal c.self.invariant.safe sound state one
+          (listed_settlement i.file H pays c.revision.result c.self.invariant.legal c.self.invariant.safe can later
+          (λ state one. rule_pays i.file H c.self.invariant.legal c.self.invariant.safe sound state one
           pays in_order told (recursion_from_All (λ (p : Payment). p.paid ≡ p.low) pays c.tell.ensures.low_ends))));
       next = settlement_next g.P.Engine.stands_for g.A.Engine.stands_for g.A.Engine.plan_for _ _ _ _ _ _ _ _ _ c.self.invariant can none
           (Settled c.revision.result pays) paid refl i.users c.settle.new.self history refl;
