@@ -98,8 +98,9 @@ serves_behind TooMany market after ask all rest transcript bytes run says = absu
 serves_behind DiskFault market after ask all rest transcript bytes run says = absurd says
 serves_behind StoreRefused market after ask all rest transcript bytes run says = absurd says
 
-pub opened_behind : (status : Status) (back : Trading) (ask : Ask) (given : Result Market FileFault)
-    (all : List ℕ) (source before middle written : Option (List ℕ))
+pub opened_behind : {Own : Type 0} (status : Status) (back : Trading Own) (ask : Ask)
+    (given : Result Market FileFault) (all : List ℕ)
+    (source before middle written : Option (List ℕ))
     → IsHandedBack back given all source before middle
     → Adds middle written (SaysLast status back.market back.standing.history ask)
     → OpenedAsk status ask given all source before written

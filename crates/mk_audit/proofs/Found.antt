@@ -17,7 +17,7 @@ use Rattle.mk_reply.specs.declared.reply.Reply.{Reply}
 use Rattle.mk_reply.specs.declared.reply.Reply.TheVariants.{Price as Priced, Refused}
 use Rattle.mk_reply.specs.declared.refusal.Refusal.TheVariants.{Syntax, Long}
 use Rattle.mk_reply.specs.Replies.{IsReply, reply_text}
-use Rattle.mk_market.specs.Trading.{Trading, IsAt}
+use Rattle.mk_market.specs.Trading.{Trading, IsAt, IsOnlyAsked}
 use Rattle.mk_rules.specs.Answers.{IsAllowed, entry_of, next_history, next_quotes}
 use Rattle.mk_rules.specs.Quotes.{Quotes}
 use Rattle.mk_rules.specs.Transcript.{Standing, Line, OfCommand, NoCommand, LongLine}
@@ -313,61 +313,64 @@ stands_behind market other now then before behind command reply is allowed stand
           (limits_of market stands.ready.stands.legal) is stands.bounded allowed));
     }
 
--- a reply was judged allowed where the history stands, and the audit goes on behind it
-pub goes_on_by : (ended : Option (Result Verdict AuditFault)) (old new : Trading)
-    (before behind : Front) (command : Command) (reply : Reply)
-    → IsAllowed old.market old.standing.history before.known.quotes command reply
-    → GoesOnBy ended old new before behind command reply
-    → HoldsReply ended old.market (standing_at old.standing before)
-    (standing_at new.standing behind) command reply before.right
-goes_on_by None old new before behind command reply allowed next = (allowed, (next allowed).1)
-goes_on_by (Some end) old new before behind command reply allowed is =
-    subst (λ (e : Result Verdict AuditFault). HoldsReply (Some e) old.market
-    (standing_at old.standing before) (standing_at new.standing behind) command reply before.right)
-    (sym is.0) tt
-
--- there each line has an allowed reply
-pub stands_by : (ended : Option (Result Verdict AuditFault)) (old new : Trading)
-    (before behind : Front) (command : Command) (reply : Reply) → IsCommand command
-    → IsAllowed old.market old.standing.history before.known.quotes command reply
-    → StandsAt old.market old.standing before
-    → GoesOnBy ended old new before behind command reply
-    → IfNone ended (StandsAt new.market new.standing behind)
-stands_by None old new before behind command reply is allowed stands next =
-    let goes = next allowed in
-    stands_behind old.market new.market old.standing new.standing before behind command reply is
-    allowed stands goes.0 goes.1 goes.2
-stands_by (Some end) old new before behind command reply is allowed stands next = tt
-
--- a market that goes on behind a reply is still the file's with what was added so far
-pub at_by : (ended : Option (Result Verdict AuditFault)) (old new : Trading)
-    (before behind : Front) (command : Command) (reply : Reply)
-    → IsAllowed old.market old.standing.history before.known.quotes command reply
-    → GoesOnBy ended old new before behind command reply
-    → (start : Market) → IsAt start old → IsAt start new
-at_by None old new before behind command reply allowed next start at =
-    let goes = next allowed in
-    let entry = entry_of old.market old.standing.history command reply in
-    goes.0 ∙ ap (with_entries entry) at ∙ sym (present_with start old.standing.history entry)
-    ∙ ap (λ (s : Standing). present start s.history) (sym goes.1)
-at_by (Some end) old new before behind command reply allowed next start at =
-    subst (IsAt start) (sym next.1) at
-
--- and so is one that stands as it did
-pub still_at : (old new : Trading) → new.market ≡ old.market → new.standing ≡ old.standing
-    → (start : Market) → IsAt start old → IsAt start new
+-- a market that stands as it did is still the file's with what was added so far
+pub still_at : {Own : Type 0} (old new : Trading Own) → new.market ≡ old.market
+    → new.standing ≡ old.standing → (start : Market) → IsAt start old → IsAt start new
 still_at old new same stays start at =
     same ∙ at ∙ ap (λ (s : Standing). present start s.history) (sym stays)
 
+-- a reply of which a market was asked was judged, and the audit goes on behind it
+module _ {Own : Type 0} (old asked new : Trading Own) (same : IsOnlyAsked old asked)
+    (before behind : Front) (command : Command) (reply : Reply)
+    (allowed : IsAllowed old.market old.standing.history before.known.quotes command reply) where
+  -- it leads where it leads from the market as it stood
+  leads : GoesOnBy None asked new before behind command reply
+      → GoesOnBy None old new before behind command reply
+  leads next = rw (same.market, same.standing) at next
+
+  -- the reply was allowed
+  pub goes_on_by : (ended : Option (Result Verdict AuditFault))
+      → GoesOnBy ended asked new before behind command reply
+      → HoldsReply ended old.market (standing_at old.standing before)
+      (standing_at new.standing behind) command reply before.right
+  goes_on_by None next = (allowed, (leads next allowed).1)
+  goes_on_by (Some end) is =
+      subst (λ (e : Result Verdict AuditFault). HoldsReply (Some e) old.market
+      (standing_at old.standing before) (standing_at new.standing behind) command reply
+      before.right) (sym is.0) tt
+
+  -- there each line has an allowed reply
+  pub stands_by : (ended : Option (Result Verdict AuditFault)) → IsCommand command
+      → StandsAt old.market old.standing before
+      → GoesOnBy ended asked new before behind command reply
+      → IfNone ended (StandsAt new.market new.standing behind)
+  stands_by None is stands next =
+      let goes = leads next allowed in
+      stands_behind old.market new.market old.standing new.standing before behind command reply is
+      allowed stands goes.0 goes.1 goes.2
+  stands_by (Some end) is stands next = tt
+
+  -- and the market is still the file's with what was added so far
+  pub at_by : (ended : Option (Result Verdict AuditFault))
+      → GoesOnBy ended asked new before behind command reply
+      → (start : Market) → IsAt start old → IsAt start new
+  at_by None next start at =
+      let goes = leads next allowed in
+      let entry = entry_of old.market old.standing.history command reply in
+      goes.0 ∙ ap (with_entries entry) at ∙ sym (present_with start old.standing.history entry)
+      ∙ ap (λ (s : Standing). present start s.history) (sym goes.1)
+  at_by (Some end) next start at =
+      subst (IsAt start) (sym next.1) (still_at old asked same.market same.standing start at)
+
 -- a market that told a price stands as before
-pub price_leaves : (old new : Trading) (command : Command) (bytes : List ℕ)
+pub price_leaves : {Own : Type 0} (old new : Trading Own) (command : Command) (bytes : List ℕ)
     → IsPriced old new command bytes → new.standing ≡ old.standing
 price_leaves old new command bytes priced =
     priced.answered.next
     ∙ ap (λ (h : List Entry). standing_of h old.standing.quotes) (no_more old.standing.history)
 
 -- the price that the market told stands next, and is one right line more
-pub price_passed : (old new : Trading) (line : StreamLine) (command : Command)
+pub price_passed : {Own : Type 0} (old new : Trading Own) (line : StreamLine) (command : Command)
     (bytes transcript : List ℕ) (before behind : Front) → StandsAt old.market old.standing before
     → is_not_blank line ≡ true → Asks line (OfCommand command) → IsPriced old new command bytes
     → behind.known ≡ before.known

@@ -37,7 +37,7 @@ one_longer : (H : List Entry) (o : Option Entry) → length (H ++ option_to_list
 one_longer H None other = absurd (other (ap (λ (l : List Entry). length l) (append-nil H)))
 one_longer H (Some e) other = length-append H (e ∷ [])
 
-module _ (old new : Trading) (command : Command) (reply : Reply)
+module _ {Own : Type 0} (old new : Trading Own) (command : Command) (reply : Reply)
     (answered : IsAnswered old new command reply) where
   -- a reply behind which the history is no longer makes no record
   pub none_made : length new.standing.history ≡ length old.standing.history

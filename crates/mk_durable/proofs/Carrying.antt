@@ -321,8 +321,8 @@ stands_given market file stored records history honest gives =
     gives).1 honest.stands
 
 -- the market of a file that stands at the history that its store gave back can go on from there
-pub can_go_on : (market : Market) (now : Trading) → IsMarket market → IsAt market now
-    → now.standing ≡ unquoted now.standing.history
+pub can_go_on : {Own : Type 0} (market : Market) (now : Trading Own) → IsMarket market
+    → IsAt market now → now.standing ≡ unquoted now.standing.history
     → Stands (present market now.standing.history) now.standing.history
     → IsSafe now.market now.standing.history → CanBegin market now.standing
 can_go_on market now is_market here quotes stands safe = record {

@@ -7,7 +7,8 @@ use Rattle.mk_rules.specs.Transcript.{Standing, OfCommand, after, market_after}
 use Rattle.mk_rules.proofs.Keeps.{present_next}
 use Rattle.mk_market.specs.Trading.{Trading, IsAt}
 
-module _ (start : Market) (old new : Trading) (command : Command) (reply : Reply) where
+module _ {Own : Type 0} (start : Market) (old new : Trading Own) (command : Command) (reply : Reply)
+  where
   moves_on : IsAt start old
       → new.market ≡ market_after old.market old.standing (OfCommand command) reply
       → new.standing ≡ after old.market old.standing (OfCommand command) reply → IsAt start new
@@ -25,4 +26,4 @@ module _ (start : Market) (old new : Trading) (command : Command) (reply : Reply
       → OnErr result (new ≡ old) → IsAt start old → IsAt start new
   at_tried (Ok value) market next same here = moves_on here market next
   at_tried (Err fault) market next same here =
-      subst (λ (t : Trading). IsAt start t) (sym same) here
+      subst (λ (t : Trading Own). IsAt start t) (sym same) here

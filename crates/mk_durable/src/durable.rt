@@ -56,9 +56,10 @@ pub struct Durable<P: Engine<SumProd>, A: Engine<MinProd>> {
 
 impl<P: Engine<SumProd>, A: Engine<MinProd>> Model for Durable<P, A> {
     ghost use Rattle.mk_rules.specs.Standings.{IsMarket};
+    ghost use Rattle.mk_assets.specs.declared.assets.Assets.{Assets};
     ghost use Rattle.mk_durable.specs.Applying.{DurableOf};
 
-    ghost Value = { DurableOf };
+    ghost Value = { DurableOf (Assets A A.Plan) };
 
     ghost view = { λ d. record { trading = d.market; store = d.store; closed = d.closed } };
 

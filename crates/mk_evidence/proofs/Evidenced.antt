@@ -1,4 +1,4 @@
--- What is found for an auditor is what was asked for, and leaves the market as it was.
+-- What is found for an auditor is what was asked for, and leaves the market as it stood.
 use Rattle.std.specs.Prelude.{◌≡◌, ℕ, List, [], ◌∷◌, map, false, Option, Some, None}
 use Rattle.std.specs.Prelude.{option_map, IsSomeAnd, IsErrAnd, IfOk, Result, Ok, Err}
 use Rattle.std.specs.List.{AllZip}
@@ -26,6 +26,7 @@ use Rattle.mk_spread.proofs.Left.{can_come_is}
 use Rattle.mk_enclose.specs.declared.factor.Factor.{Factor}
 use Rattle.mk_file.specs.declared.market_file.MarketFile.{MarketFile}
 use Rattle.mk_file.specs.MarketOf.{market_of}
+use Rattle.mk_assets.specs.declared.assets.Assets.{Assets}
 use Rattle.mk_cash.specs.Accounts.{LedgerOf}
 use Rattle.mk_judge.specs.declared.price.PriceBounds.{PriceBounds}
 use Rattle.mk_quote.specs.declared.bounds.Bounds.{Bounds}
@@ -53,68 +54,72 @@ use Rattle.mk_evidence.specs.Grades.{evidence_grade}
 use Rattle.mk_evidence.specs.Evidence.{IsAskedFor, IsPriceEvidence, ArePricesEvidence}
 use Rattle.mk_evidence.specs.Evidence.{IsWorstEvidence, IsPositionEvidence, IsPaymentEvidence}
 use Rattle.mk_evidence.specs.Evidence.{IsEditEvidence, IsSpreadEvidence}
-use Rattle.mk_market.specs.Trading.{Trading}
+use Rattle.mk_market.specs.Trading.{Trading, IsOnlyAsked}
 use Rattle.mk_evidence.specs.inner.Finding.{AreBothFound, AreEachFound}
 use Rattle.mk_market.specs.inner.Keeping.{quoted}
 use Rattle.mk_market.proofs.Quotes.{trading}
 use Rattle.mk_market.proofs.Replies.{stopped_by_states, unrefused}
 use Rattle.mk_market.proofs.Together.{none_together, condition_comes}
 
--- users who were quoted the same leave the market the same
-pub same_trading : {A Plan : Type 0} (file : MarketFile) (ledger : LedgerOf)
+-- a market whose users were quoted the same was only asked
+pub only_asked : {A Plan : Type 0} (file : MarketFile) (ledger : LedgerOf)
     (journal : JournalOf) (members new_members : List (Member A Plan))
-    → quotes_of new_members ≡ quotes_of members
-    → trading file ledger journal new_members ≡ trading file ledger journal members
-same_trading file ledger journal members new_members same =
-    ap (λ (qs : List (Option LastQuote)). record {
-      market = market_of file;
-      standing = record { history = journal.history; quotes = map (option_map quoted) qs };
-      accounts = ledger.accounts;
-    }) same
+    → quotes_of new_members ≡ quotes_of members → (old : Trading (Assets A Plan))
+    → trading file ledger journal members ≡ old
+    → IsOnlyAsked old (trading file ledger journal new_members)
+only_asked {A} {Plan} file ledger journal members new_members same old view = record {
+  market = ap (λ (t : Trading (Assets A Plan)). t.market) view;
+  standing = ap (λ (qs : List (Option LastQuote)). record {
+        history = journal.history;
+        quotes = map (option_map quoted) qs;
+      }) same
+      ∙ ap (λ (t : Trading (Assets A Plan)). t.standing) view;
+  accounts = ap (λ (t : Trading (Assets A Plan)). t.accounts) view;
+}
 
 -- what is refused
-pub asked_refused : {F : Type 0} (old known : Trading) → known ≡ old → (command : Command)
+pub asked_refused : {Own F : Type 0} (old known : Trading Own) → known ≡ old → (command : Command)
     (why : Refusal) (result : Result F Refusal) (E : F → Type 0)
     → IsErrAnd result (λ e. e ≡ why)
     → Some why ≡ first_refusal known.market known.standing.history command
     → IsAskedFor old.market old.standing.history command result E
-asked_refused old known same command why (Ok found) E is refusal = absurd is
-asked_refused old known same command why (Err found) E is refusal =
-    subst (λ (t : Trading). first_refusal t.market t.standing.history command ≡ Some found) same
+asked_refused {Own} old known same command why (Ok found) E is refusal = absurd is
+asked_refused {Own} old known same command why (Err found) E is refusal =
+    subst (λ (t : Trading Own). first_refusal t.market t.standing.history command ≡ Some found) same
     (sym refusal ∙ ap (λ (w : Refusal). Some w) (sym is))
 
 -- what is asked of a market as its parts give it is asked of it
-pub asked_in : {F : Type 0} (old known : Trading) → known ≡ old → (command : Command)
+pub asked_in : {Own F : Type 0} (old known : Trading Own) → known ≡ old → (command : Command)
     (result : Result F Refusal) (E : Market → List Entry → F → Type 0)
     → IsAskedFor known.market known.standing.history command result
     (E known.market known.standing.history)
     → IsAskedFor old.market old.standing.history command result
     (E old.market old.standing.history)
-asked_in old known same command result E h =
-    subst (λ (t : Trading). IsAskedFor t.market t.standing.history command result
+asked_in {Own} old known same command result E h =
+    subst (λ (t : Trading Own). IsAskedFor t.market t.standing.history command result
     (E t.market t.standing.history)) same h
 
-pub stopped_in : (old known : Trading) → known ≡ old → (command : Command)
+pub stopped_in : {Own : Type 0} (old known : Trading Own) → known ≡ old → (command : Command)
     (found : Option Refusal)
     → first_refusal known.market known.standing.history command ≡ found
     → first_refusal old.market old.standing.history command ≡ found
-stopped_in old known same command found e =
-    subst (λ (t : Trading). first_refusal t.market t.standing.history command ≡ found) same e
+stopped_in {Own} old known same command found e =
+    subst (λ (t : Trading Own). first_refusal t.market t.standing.history command ≡ found) same e
 
-pub refused_is : {T : Type 0} (old known : Trading) → known ≡ old → (command : Command)
+pub refused_is : {Own T : Type 0} (old known : Trading Own) → known ≡ old → (command : Command)
     (result : Result T Refusal)
     → refusal_in result ≡ first_refusal known.market known.standing.history command
     → refusal_in result ≡ first_refusal old.market old.standing.history command
-refused_is old known same command result e =
-    subst (λ (t : Trading). refusal_in result ≡ first_refusal t.market t.standing.history command)
-    same e
+refused_is {Own} old known same command result e =
+    subst (λ (t : Trading Own). refusal_in result
+    ≡ first_refusal t.market t.standing.history command) same e
 
-pub refused_err : {T : Type 0} (old known : Trading) → known ≡ old → (command : Command)
+pub refused_err : {Own T : Type 0} (old known : Trading Own) → known ≡ old → (command : Command)
     (why : Refusal) (result : Result T Refusal) → IsErrAnd result (λ e. e ≡ why)
     → Some why ≡ first_refusal known.market known.standing.history command
     → refusal_in result ≡ first_refusal old.market old.standing.history command
-refused_err {T} old known same command why (Ok found) is refusal = absurd is
-refused_err {T} old known same command why (Err found) is refusal =
+refused_err {Own} {T} old known same command why (Ok found) is refusal = absurd is
+refused_err {Own} {T} old known same command why (Err found) is refusal =
     refused_is {T = T} old known same command (Err found)
     (ap (λ (w : Refusal). Some w) is ∙ refusal)
 

@@ -1,11 +1,12 @@
 //! Enclosures of the exact numbers that an auditor holds against printed prices, points and bits.
 //!
 //! Each call asks the beliefs that the command asks, in the same order, refuses what the command is
-//! refused for, and leaves the market as it was.
+//! refused for, and leaves the market as it stood: what a user owns may learn what is known.
 
 ghost use Rattle.std.specs.Prelude.{◌≡◌, ◌<◌, ◌≤◌, length};
 ghost use Rattle.mk_command.specs.declared.command.Command.TheVariants as command;
 ghost use Rattle.mk_exact.specs.History.{users};
+ghost use Rattle.mk_market.specs.Trading.{IsOnlyAsked};
 ghost use Rattle.mk_evidence.specs.Grades.{all_cells};
 ghost use Rattle.mk_evidence.specs.Evidence.{IsAskedFor, IsPriceEvidence, ArePricesEvidence};
 ghost use Rattle.mk_evidence.specs.Evidence.{IsWorstEvidence, IsPositionEvidence};
@@ -73,7 +74,7 @@ pub fn worst_evidence<P: TreeGraded<SumProd>, A: TreeGraded<MinProd>>(
     market: &mut Market<P, A>,
     name: &Name,
 ) -> Result<Factor, Refusal>
-    ensures same { market.new ≡ market.old }
+    ensures same { IsOnlyAsked market.old market.new }
     ensures evidence { IsAskedFor market.old.market (market.old.standing).history
         (command.Worst name.now) result
         (IsWorstEvidence market.old.market (market.old.standing).history name.now) }
@@ -89,7 +90,7 @@ pub fn withdrawal_evidence<P: TreeGraded<SumProd>, A: TreeGraded<MinProd>>(
     name: &Name,
     bits: u32,
 ) -> Result<Factor, Refusal>
-    ensures same { market.new ≡ market.old }
+    ensures same { IsOnlyAsked market.old market.new }
     ensures evidence { IsAskedFor market.old.market (market.old.standing).history
         (command.Withdraw name.now bits) result
         (IsWorstEvidence market.old.market (market.old.standing).history name.now) }
@@ -107,7 +108,7 @@ pub fn position_evidence<P: TreeGraded<SumProd>, A: TreeGraded<MinProd>>(
     variable: &Name,
     condition: &ArrayVec<PairText, 8>,
 ) -> Result<ArrayVec<Option<Factor>, 16>, Refusal>
-    ensures same { market.new ≡ market.old }
+    ensures same { IsOnlyAsked market.old market.new }
     ensures evidence { IsAskedFor market.old.market (market.old.standing).history
         (command.Position name.now variable.now condition.now) result
         (IsPositionEvidence market.old.market (market.old.standing).history name.now variable.now
@@ -158,7 +159,7 @@ pub fn payment_evidence<P: TreeGraded<SumProd>, A: TreeGraded<MinProd>>(
     user: u32,
 ) -> Factor
     requires { user < length (users (market.old.standing).history) }
-    ensures same { market.new ≡ market.old }
+    ensures same { IsOnlyAsked market.old market.new }
     ensures evidence { IsPaymentEvidence market.old.market (market.old.standing).history user
         result }
 {

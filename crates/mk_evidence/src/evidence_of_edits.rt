@@ -4,6 +4,7 @@ ghost use Rattle.std.specs.Prelude.{◌≡◌, MatchResult};
 ghost use Rattle.mk_command.specs.declared.command.Command.TheVariants as command;
 ghost use Rattle.mk_engine.specs.Meaning.{Meaning};
 ghost use Rattle.mk_record.specs.Members.{names_of, quotes_of};
+ghost use Rattle.mk_market.specs.Trading.{IsOnlyAsked};
 ghost use Rattle.mk_evidence.specs.inner.Finding.{CanFindBoth, AreBothFound};
 ghost use Rattle.mk_market.specs.inner.Keeping.{AreHeld};
 ghost use Rattle.mk_market.specs.inner.Stopped.{IsDecidedBy};
@@ -65,13 +66,13 @@ fn edit_bounds<P: TreeGraded<SumProd>, A: TreeGraded<MinProd>>(
 }
 
 /// The bounds of a question for a user, by which `limits` is answered. The market stays as it
-/// was.
+/// stood, and the user's assets learn what is known.
 pub fn limits_evidence<P: TreeGraded<SumProd>, A: TreeGraded<MinProd>>(
     market: &mut Market<P, A>,
     name: &Name,
     question: &QuestionText,
 ) -> Result<EditEvidence, Refusal>
-    ensures same { market.new ≡ market.old }
+    ensures same { IsOnlyAsked market.old market.new }
     ensures evidence { IsAskedFor market.old.market (market.old.standing).history
         (command.Limits name.now question.now) result
         (IsEditEvidence market.old.market (market.old.standing).history name.now question.now) }
@@ -95,7 +96,7 @@ pub fn limits_evidence<P: TreeGraded<SumProd>, A: TreeGraded<MinProd>>(
 
 /// The same bounds, by which an edit to so many millionths is answered, whose user has seen a
 /// revision. They are found anew also where the user's last quote is of this question. The
-/// market stays as it was.
+/// market stays as it stood, and the user's assets learn what is known.
 pub fn edit_evidence<P: TreeGraded<SumProd>, A: TreeGraded<MinProd>>(
     market: &mut Market<P, A>,
     name: &Name,
@@ -103,7 +104,7 @@ pub fn edit_evidence<P: TreeGraded<SumProd>, A: TreeGraded<MinProd>>(
     to: u32,
     at: Option<u32>,
 ) -> Result<EditEvidence, Refusal>
-    ensures same { market.new ≡ market.old }
+    ensures same { IsOnlyAsked market.old market.new }
     ensures evidence { IsAskedFor market.old.market (market.old.standing).history
         (command.Edit name.now question.now to at) result
         (IsEditEvidence market.old.market (market.old.standing).history name.now question.now) }

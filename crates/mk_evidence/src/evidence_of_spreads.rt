@@ -6,6 +6,7 @@ ghost use Rattle.mk_command.specs.declared.command.Command.TheVariants as comman
 ghost use Rattle.mk_engine.specs.Meaning.{Meaning};
 ghost use Rattle.mk_quote.specs.Questions.{spread_in};
 ghost use Rattle.mk_record.specs.Members.{names_of, quotes_of};
+ghost use Rattle.mk_market.specs.Trading.{IsOnlyAsked};
 ghost use Rattle.mk_evidence.specs.inner.Finding.{CanFindEach, AreEachFound, ArePlacedBounds};
 ghost use Rattle.mk_evidence.specs.inner.Finding.{IsStoppedAnew};
 ghost use Rattle.mk_market.specs.inner.Keeping.{AreHeld};
@@ -108,14 +109,14 @@ fn placed_bounds<P: TreeGraded<SumProd>, A: TreeGraded<MinProd>>(
 }
 
 /// The bounds of each value of a variable for a user, by which `bounds` is answered. The market
-/// stays as it was.
+/// stays as it stood, and the user's assets learn what is known.
 pub fn bounds_evidence<P: TreeGraded<SumProd>, A: TreeGraded<MinProd>>(
     market: &mut Market<P, A>,
     name: &Name,
     variable: &Name,
     condition: &ArrayVec<PairText, 8>,
 ) -> Result<SpreadEvidence, Refusal>
-    ensures same { market.new ≡ market.old }
+    ensures same { IsOnlyAsked market.old market.new }
     ensures evidence { IsAskedFor market.old.market (market.old.standing).history
         (command.Bounds name.now variable.now condition.now) result
         (IsSpreadEvidence market.old.market (market.old.standing).history name.now variable.now
@@ -154,7 +155,7 @@ pub fn bounds_evidence<P: TreeGraded<SumProd>, A: TreeGraded<MinProd>>(
 
 /// The same bounds, by which a spread to so many millionths each is answered, whose user has
 /// seen a revision. They are found anew also where the user's last quote is of this spread. The
-/// market stays as it was.
+/// market stays as it stood, and the user's assets learn what is known.
 pub fn spread_evidence<P: TreeGraded<SumProd>, A: TreeGraded<MinProd>>(
     market: &mut Market<P, A>,
     name: &Name,
@@ -163,7 +164,7 @@ pub fn spread_evidence<P: TreeGraded<SumProd>, A: TreeGraded<MinProd>>(
     to: &ArrayVec<u32, 16>,
     at: Option<u32>,
 ) -> Result<SpreadEvidence, Refusal>
-    ensures same { market.new ≡ market.old }
+    ensures same { IsOnlyAsked market.old market.new }
     ensures evidence { IsAskedFor market.old.market (market.old.standing).history
         (command.Spread name.now variable.now condition.now to.now at) result
         (IsSpreadEvidence market.old.market (market.old.standing).history name.now variable.now

@@ -108,9 +108,9 @@ counted_at_start market is_market all source now told begins = record {
 none_within : IsWithin fresh.given uncounted
 none_within = record { replies = omega arith; trades = omega arith; refused = omega arith }
 
-pub counting_at_start : (trading : Trading) → IsMarket trading.market → (all : List ℕ)
-    (lines : Cutting) (source : List ℕ) (tally : Tally) → lines ≡ fresh → tally ≡ uncounted
-    → source ≡ all → trading.standing ≡ opening
+pub counting_at_start : {Own : Type 0} (trading : Trading Own) → IsMarket trading.market
+    → (all : List ℕ) (lines : Cutting) (source : List ℕ) (tally : Tally) → lines ≡ fresh
+    → tally ≡ uncounted → source ≡ all → trading.standing ≡ opening
     → IsCounting trading.market trading all lines source tally
 counting_at_start trading is_market all lines source tally unread none told begins =
     let market = trading.market in

@@ -22,7 +22,7 @@ use Rattle.mk_session.proofs.Completing.{none_within_stream}
 
 -- between two lines: the market is still the file's with what was added, the lines go on, no fault
 -- was counted, the keeper is ready, and the run is so far
-pub record IsGoing (begun trading : Trading) (commands : Option (List ℕ))
+pub record IsGoing {Own : Type 0} (begun trading : Trading Own) (commands : Option (List ℕ))
     (lines : Cutting) (source : Option (List ℕ))
     (headed written : Option (List ℕ)) (waits : List ℕ) (opened_before opened : Option (List ℕ))
     (disk_before disk inputs_before inputs sink_before sink : ℕ)
@@ -37,7 +37,7 @@ pub record IsGoing (begun trading : Trading) (commands : Option (List ℕ))
       → IsBegun start begun all commands before headed
       → IsSoFar start all lines source trading.standing before written waits
 
-pub far_at_start : (start : Start) (trading : Trading) (all : List ℕ)
+pub far_at_start : {Own : Type 0} (start : Start) (trading : Trading Own) (all : List ℕ)
     (source before written : Option (List ℕ)) (waits : List ℕ)
     → IsBegun start trading all source before written → waits ≡ []
     → IsSoFar start all fresh source trading.standing before written waits

@@ -12,21 +12,22 @@ use Rattle.mk_session.specs.Outcome.{Ends, status_of}
 use Rattle.mk_session.proofs.Serving.{turned_from}
 
 -- a market is handed back, or the run ends otherwise
-abbrev pub EndsBack : Result Trading Status → Result Market FileFault → List ℕ
-    → Option (List ℕ) → Option (List ℕ) → Option (List ℕ) → Type 0
+abbrev pub EndsBack : {Own : Type 0} → Result (Trading Own) Status → Result Market FileFault
+    → List ℕ → Option (List ℕ) → Option (List ℕ) → Option (List ℕ) → Type 0
 EndsBack result given all source before written =
     MatchResult result (λ back. IsHandedBack back given all source before written)
     (λ status. Opened status given all source before written)
 
-pub ends_back_at : (result : Result Trading Status) (given same : Result Market FileFault)
-    (all : List ℕ) (source before written : Option (List ℕ)) → given ≡ same
+pub ends_back_at : {Own : Type 0} (result : Result (Trading Own) Status)
+    (given same : Result Market FileFault) (all : List ℕ)
+    (source before written : Option (List ℕ)) → given ≡ same
     → EndsBack result given all source before written
     → EndsBack result same all source before written
 ends_back_at result given same all source before written e ends =
     subst (λ (g : Result Market FileFault). EndsBack result g all source before written) e ends
 
 -- the market that ran is handed back
-pub handed : (back : Trading) (market : Market) (all : List ℕ)
+pub handed : {Own : Type 0} (back : Trading Own) (market : Market) (all : List ℕ)
     (source before written : Option (List ℕ)) → IsAt market back
     → IsRunTo market back.standing all source before written
     → IsHandedBack back (Ok market) all source before written
@@ -38,7 +39,7 @@ handed back market all source before written here run = record {
 }
 
 -- the whole run, once its file was opened
-pub outcome_back : (result : Result Trading Status) (file all : List ℕ)
+pub outcome_back : {Own : Type 0} (result : Result (Trading Own) Status) (file all : List ℕ)
     (source before written : Option (List ℕ)) → EndsBack result (file_of file) all source before
     written
     → MatchResult result (λ back. IsHandedBack back (file_of file) all source before written)
@@ -47,7 +48,7 @@ outcome_back (Ok back) file all source before written ends = ends
 outcome_back (Err status) file all source before written ends = inr ends
 
 -- a refused file hands nothing back
-pub turned_back : (result : Result Trading Status) (fault : FileFault)
+pub turned_back : {Own : Type 0} (result : Result (Trading Own) Status) (fault : FileFault)
     (source mid left before written : Option (List ℕ)) → mid ≡ source
     → MatchResult result (λ _. ⊥) (λ status. IsTurnedAway status fault mid left before written)
     → MatchResult result (λ _. ⊥) (λ status. IsTurnedAway status fault source left before written)
@@ -56,8 +57,8 @@ turned_back (Err status) fault source mid left before written same turned =
     turned_from status fault source mid left before written same turned
 
 -- the status of a run that hands its market back ends as a run does
-pub opened_status : (result : Result Trading Status) (given : Result Market FileFault)
-    (all : List ℕ) (source before written : Option (List ℕ))
+pub opened_status : {Own : Type 0} (result : Result (Trading Own) Status)
+    (given : Result Market FileFault) (all : List ℕ) (source before written : Option (List ℕ))
     → EndsBack result given all source before written
     → Opened (status_of result) given all source before written
 opened_status (Ok back) given all source before written ends = record {
@@ -73,7 +74,7 @@ opened_status (Ok back) given all source before written ends = record {
 opened_status (Err status) given all source before written ends = ends
 
 -- and it is no other than memory's where it does not
-pub only_memory : (result : Result Trading Status)
+pub only_memory : {Own : Type 0} (result : Result (Trading Own) Status)
     → IfErr result (λ status. (status ≡ Done) → ⊥)
     → (status_of result ≡ Done) ⊎ (status_of result ≡ Memory)
     → IfErr result (λ status. status ≡ Memory)

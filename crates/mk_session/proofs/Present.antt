@@ -12,11 +12,12 @@ use Rattle.mk_market.specs.Trading.{Trading, IsAt, IsAnswered}
 use Rattle.mk_session.specs.inner.Progress.{IsSoundAt}
 
 -- at the opening both are one
-pub at_first : (trading : Trading) → trading.standing ≡ opening → IsAt trading.market trading
+pub at_first : {Own : Type 0} (trading : Trading Own) → trading.standing ≡ opening
+    → IsAt trading.market trading
 at_first trading begins = sym (ap (λ (s : Standing). present trading.market s.history) begins
     ∙ present_at_first trading.market)
 
-module _ (start : Market) (old new : Trading) (command : Command) (reply : Reply)
+module _ {Own : Type 0} (start : Market) (old new : Trading Own) (command : Command) (reply : Reply)
     (here : IsAt start old) (answered : IsAnswered old new command reply) where
   -- a command that it answered is answered by the rules of the file's market with what was added
   pub allowed_at : IsSoundAt start old.standing

@@ -116,8 +116,8 @@ turned_from status fault source mid left before after same turned = record {
 }
 
 -- where the head of a run was written, it has begun
-pub begun_at : (start : Market) (trading : Trading) (recovered : Option ℕ) (all line : List ℕ)
-    (source before written : Option (List ℕ)) → IsAt start trading
+pub begun_at : {Own : Type 0} (start : Market) (trading : Trading Own) (recovered : Option ℕ)
+    (all line : List ℕ) (source before written : Option (List ℕ)) → IsAt start trading
     → CanBegin start trading.standing
     → source ≡ Some all → written ≡ append_known before line
     → line ≡ head_of start recovered

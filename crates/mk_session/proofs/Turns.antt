@@ -207,7 +207,7 @@ kept_after said ended start line old new kept all source rest before written aft
         (base ++ records_of (changes_from start held.asked held.replies)) held.held))
 
 -- before the first line
-pub held_at_start : (start : Start) (trading : Trading) (all : List ℕ)
+pub held_at_start : {Own : Type 0} (start : Start) (trading : Trading Own) (all : List ℕ)
     (source before written : Option (List ℕ)) (waits : List ℕ)
     (kept : List (List ℕ)) (holds : List (List ℕ) → List (List ℕ) → Type 0)
     (passes : List (List ℕ) → ℕ → Type 0)

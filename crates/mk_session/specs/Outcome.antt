@@ -142,8 +142,8 @@ IsRunTo market after all source before written =
 
 -- a market is handed back behind a whole run: it is the file's with what was added, and stands as
 -- the replies that were written leave it
-pub record IsHandedBack (back : Trading) (given : Result Market FileFault) (all : List ℕ)
-    (source before written : Option (List ℕ)) : Type 0 where
+pub record IsHandedBack {Own : Type 0} (back : Trading Own) (given : Result Market FileFault)
+    (all : List ℕ) (source before written : Option (List ℕ)) : Type 0 where
   pub market : Market
   pub accepted : given ≡ Ok market
   pub at : IsAt market back

@@ -8,7 +8,8 @@ use Rattle.mk_market.specs.Trading.{Trading, IsAnswered}
 use Rattle.mk_session.specs.Texts.{reply_line}
 
 -- a market told the price of a question, and this is the line
-pub record IsPriced (old new : Trading) (command : Command) (line : List ℕ) : Type 0 where
+pub record IsPriced {Own : Type 0} (old new : Trading Own) (command : Command)
+    (line : List ℕ) : Type 0 where
   pub question : QuestionText
   pub low : ℕ
   pub high : ℕ

@@ -27,6 +27,7 @@ pub fn open(alloc: Global, file: MarketFile) -> Result<TreeMarket, NoMemory>
       market = market_of file;
       standing = opening;
       accounts = [];
+      assets = [];
     }) }
     ensures is_market { IfOk result (λ _. IsMarket (market_of file)) }
 {

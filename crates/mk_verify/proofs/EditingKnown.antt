@@ -2,7 +2,8 @@
 use Rattle.std.proofs.Common.{◌≡◌, ℕ, Bool, List, sym, ap, ◌∙◌}
 use Rattle.mk_exact.specs.History.{Entry, revision}
 use Rattle.mk_exact.specs.Market.{Market}
-use Rattle.mk_market.specs.Trading.{Trading}
+use Rattle.mk_rules.specs.Transcript.{Standing}
+use Rattle.mk_market.specs.Trading.{Trading, IsOnlyAsked}
 use Rattle.mk_verify.specs.Known.{Knowledge, IsKnown}
 use Rattle.mk_verify.specs.inner.Judging.{TellsSmall}
 
@@ -11,5 +12,6 @@ pub flag_tells : (market : Market) (H : List Entry) (known : Knowledge) (small :
 flag_tells market H known small is same = (λ yes. is.small.0 (sym same ∙ yes), λ s. same ∙ is.small.1 s)
 
 -- the revision that is read behind evidence is that of the market before
-pub present_is : (old new : Trading) (now : ℕ) → new ≡ old → now ≡ revision new.standing.history → now ≡ revision old.standing.history
-present_is old new now same read = read ∙ ap (λ (t : Trading). revision t.standing.history) same
+pub present_is : {Own : Type 0} (old new : Trading Own) (now : ℕ) → IsOnlyAsked old new
+    → now ≡ revision new.standing.history → now ≡ revision old.standing.history
+present_is old new now same read = read ∙ ap (λ (s : Standing). revision s.history) same.standing

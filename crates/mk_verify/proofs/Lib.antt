@@ -1,3 +1,4 @@
+mod Asking
 mod ByWords
 mod EditingJudged
 mod EditingKnown

@@ -1,7 +1,7 @@
 //! Judgements of the replies to `limits` and `edit`.
 
-ghost use Rattle.std.specs.Prelude.{◌≡◌};
 ghost use Rattle.mk_command.specs.declared.command.Command.TheVariants.{Limits, Edit};
+ghost use Rattle.mk_market.specs.Trading.{IsOnlyAsked};
 ghost use Rattle.mk_judge.specs.Judged.{Judges};
 ghost use Rattle.mk_rules.specs.Answers.{IsAllowed};
 ghost use Rattle.mk_rules.specs.Standings.{Stands};
@@ -29,7 +29,7 @@ pub(crate) fn judge_limits_reply<P: TreeGraded<SumProd>, A: TreeGraded<MinProd>>
     reply: &Reply,
 ) -> Judged
     requires known { IsKnown market.old.market (market.old.standing).history known.now }
-    ensures same { market.new ≡ market.old }
+    ensures same { IsOnlyAsked market.old market.new }
     ensures judged { Stands market.old.market (market.old.standing).history → Judges result
         (IsAllowed market.old.market (market.old.standing).history known.now.quotes
         (Limits name.now question.now) reply.now)
@@ -63,7 +63,7 @@ pub(crate) fn judge_edit_reply<P: TreeGraded<SumProd>, A: TreeGraded<MinProd>>(
     reply: &Reply,
 ) -> Judged
     requires known { IsKnown market.old.market (market.old.standing).history known.now }
-    ensures same { market.new ≡ market.old }
+    ensures same { IsOnlyAsked market.old market.new }
     ensures judged { Stands market.old.market (market.old.standing).history → Judges result
         (IsAllowed market.old.market (market.old.standing).history known.now.quotes
         (Edit name.now asked.entry.question.now asked.entry.to asked.entry.at) reply.now)

@@ -1,10 +1,10 @@
 //! The judge of a reply to any command.
-ghost use Rattle.std.specs.Prelude.{◌≡◌};
 ghost use Rattle.mk_command.specs.Commands.{command_of};
 ghost use Rattle.mk_command.specs.inner.Kinds.{IsOfValues};
 ghost use Rattle.mk_reply.specs.Replies.{IsReply};
 ghost use Rattle.mk_rules.specs.Answers.{IsAllowed};
 ghost use Rattle.mk_rules.specs.Standings.{Stands};
+ghost use Rattle.mk_market.specs.Trading.{IsOnlyAsked};
 ghost use Rattle.mk_judge.specs.Judged.{Judges};
 ghost use Rattle.mk_verify.specs.Clear.{IsOpen};
 ghost use Rattle.mk_verify.specs.Known.{IsKnown};
@@ -35,7 +35,7 @@ pub fn judge<P: TreeGraded<SumProd>, A: TreeGraded<MinProd>>(
 ) -> Judged
     requires known { IsKnown market.old.market (market.old.standing).history known.now }
     requires reply { IsReply reply.now }
-    ensures same { market.new ≡ market.old }
+    ensures same { IsOnlyAsked market.old market.new }
     ensures judged { Stands market.old.market (market.old.standing).history
         → Judges result
         (IsAllowed market.old.market (market.old.standing).history known.now.quotes
@@ -92,7 +92,7 @@ fn judge_of_values<P: TreeGraded<SumProd>, A: TreeGraded<MinProd>>(
     requires known { IsKnown market.old.market (market.old.standing).history known.now }
     requires command { IsOfValues (command_of command.now) }
     requires reply { IsReply reply.now }
-    ensures same { market.new ≡ market.old }
+    ensures same { IsOnlyAsked market.old market.new }
     ensures judged { Stands market.old.market (market.old.standing).history
         → Judges result
         (IsAllowed market.old.market (market.old.standing).history known.now.quotes

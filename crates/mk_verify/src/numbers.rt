@@ -5,6 +5,7 @@ ghost use Rattle.mk_reply.specs.declared.refusal.Refusal.TheVariants.{Short};
 ghost use Rattle.mk_reply.specs.declared.reply.Reply.TheVariants.{Withdrawn, Refused};
 ghost use Rattle.mk_command.specs.declared.command.Command.TheVariants as command;
 ghost use Rattle.mk_reply.specs.Replies.{IsReply};
+ghost use Rattle.mk_market.specs.Trading.{IsOnlyAsked};
 ghost use Rattle.mk_verify.specs.inner.Judging.{JudgesReply, TellsSmall};
 
 use crate::plain::is_next;
@@ -49,7 +50,7 @@ pub fn judge_worst_reply<P: TreeGraded<SumProd>, A: TreeGraded<MinProd>>(
 ) -> Judged
     requires small { TellsSmall small market.old.market (market.old.standing).history }
     requires reply { IsReply reply.now }
-    ensures same { market.new ≡ market.old }
+    ensures same { IsOnlyAsked market.old market.new }
     ensures judged { JudgesReply market.old.market (market.old.standing).history
         (command.Worst name.now) reply.now result }
 {
@@ -79,7 +80,7 @@ pub fn judge_withdrawal<P: TreeGraded<SumProd>, A: TreeGraded<MinProd>>(
     reply: &Reply,
 ) -> Judged
     requires small { TellsSmall small market.old.market (market.old.standing).history }
-    ensures same { market.new ≡ market.old }
+    ensures same { IsOnlyAsked market.old market.new }
     ensures judged { JudgesReply market.old.market (market.old.standing).history
         (command.Withdraw name.now bits) reply.now result }
 {

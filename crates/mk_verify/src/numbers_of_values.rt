@@ -2,6 +2,7 @@
 ghost use Rattle.std.specs.Prelude.{◌≡◌};
 ghost use Rattle.mk_command.specs.declared.command.Command.TheVariants as command;
 ghost use Rattle.mk_reply.specs.Replies.{IsReply};
+ghost use Rattle.mk_market.specs.Trading.{IsOnlyAsked};
 ghost use Rattle.mk_verify.specs.inner.Judging.{JudgesReply, TellsSmall};
 
 use crate::each::{judge_each_position, judge_each_price};
@@ -53,7 +54,7 @@ pub fn judge_position<P: TreeGraded<SumProd>, A: TreeGraded<MinProd>>(
 ) -> Judged
     requires small { TellsSmall small market.old.market (market.old.standing).history }
     requires reply { IsReply reply.now }
-    ensures same { market.new ≡ market.old }
+    ensures same { IsOnlyAsked market.old market.new }
     ensures judged { JudgesReply market.old.market (market.old.standing).history
         (command.Position name.now variable.now condition.now) reply.now result }
 {

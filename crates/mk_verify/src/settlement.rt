@@ -12,6 +12,7 @@ ghost use Rattle.mk_reply.specs.Replies.{IsReply, IsPayment as IsReadPayment};
 ghost use Rattle.mk_reply.specs.declared.reply.Reply.TheVariants.{SettledAll};
 ghost use Rattle.mk_rules.specs.Answers.{settled_by_rule};
 ghost use Rattle.mk_rules.specs.Refusals.{first_refusal};
+ghost use Rattle.mk_market.specs.Trading.{IsOnlyAsked};
 ghost use Rattle.mk_judge.specs.Judged.{Judges};
 ghost use Rattle.mk_verify.specs.Clear.{IsCashOpen, IsPaymentOpen};
 ghost use Rattle.mk_verify.specs.inner.Judging.{JudgesReply, TellsSmall, PaysCash, PayEach};
@@ -37,7 +38,7 @@ pub fn judge_settlement<P: TreeGraded<SumProd>, A: TreeGraded<MinProd>>(
 ) -> Judged
     requires small { TellsSmall small market.old.market (market.old.standing).history }
     requires reply { IsReply reply.now }
-    ensures same { market.new ≡ market.old }
+    ensures same { IsOnlyAsked market.old market.new }
     ensures judged { JudgesReply market.old.market (market.old.standing).history command.Settle
         reply.now result }
 {
@@ -104,7 +105,7 @@ fn judge_payments<P: TreeGraded<SumProd>, A: TreeGraded<MinProd>>(
     requires in_order { map (λ p. p.user) payments.now ≡ users (market.old.standing).history }
     requires fits { All IsReadPayment payments.now }
     requires few { length payments.now < 2 ^ 32 }
-    ensures same { market.new ≡ market.old }
+    ensures same { IsOnlyAsked market.old market.new }
     ensures judged { (state : List ℕ)
         → IsSound market.old.market.network
         (market.old.standing).history
@@ -132,7 +133,7 @@ fn judge_payment<P: TreeGraded<SumProd>, A: TreeGraded<MinProd>>(
         (market.old.standing).history }
     requires user { user < length (users (market.old.standing).history) }
     requires fits { IsReadPayment payment.now }
-    ensures same { market.new ≡ market.old }
+    ensures same { IsOnlyAsked market.old market.new }
     ensures judged { (state : List ℕ)
         → IsSound market.old.market.network
         (market.old.standing).history

@@ -1,7 +1,7 @@
 //! Judgements of the replies to `bounds` and `spread`.
 
-ghost use Rattle.std.specs.Prelude.{◌≡◌};
 ghost use Rattle.mk_command.specs.declared.command.Command.TheVariants.{Bounds, Spread};
+ghost use Rattle.mk_market.specs.Trading.{IsOnlyAsked};
 ghost use Rattle.mk_judge.specs.Judged.{Judges};
 ghost use Rattle.mk_rules.specs.Answers.{IsAllowed};
 ghost use Rattle.mk_rules.specs.Standings.{Stands};
@@ -31,7 +31,7 @@ pub(crate) fn judge_bounds_reply<P: TreeGraded<SumProd>, A: TreeGraded<MinProd>>
     reply: &Reply,
 ) -> Judged
     requires known { IsKnown market.old.market (market.old.standing).history known.now }
-    ensures same { market.new ≡ market.old }
+    ensures same { IsOnlyAsked market.old market.new }
     ensures judged { Stands market.old.market (market.old.standing).history → Judges result
         (IsAllowed market.old.market (market.old.standing).history known.now.quotes
         (Bounds name.now variable.now condition.now) reply.now)
@@ -66,7 +66,7 @@ pub(crate) fn judge_spread_reply<P: TreeGraded<SumProd>, A: TreeGraded<MinProd>>
     reply: &Reply,
 ) -> Judged
     requires known { IsKnown market.old.market (market.old.standing).history known.now }
-    ensures same { market.new ≡ market.old }
+    ensures same { IsOnlyAsked market.old market.new }
     ensures judged { Stands market.old.market (market.old.standing).history → Judges result
         (IsAllowed market.old.market (market.old.standing).history known.now.quotes
         (Spread name.now asked.entry.variable.now asked.entry.condition.now asked.entry.to.now asked.entry.at) reply.now)

@@ -60,8 +60,8 @@ HoldsBytes (Some end) bytes transcript before after =
 
 -- where a reply to a command is allowed, the audit goes on where it leads; or memory was wanting,
 -- and the market is as it was
-abbrev pub GoesOnBy : Option (Result Verdict AuditFault) → Trading → Trading → Front → Front
-    → Command → Reply → Type 0
+abbrev pub GoesOnBy : {Own : Type 0} → Option (Result Verdict AuditFault) → Trading Own
+    → Trading Own → Front → Front → Command → Reply → Type 0
 GoesOnBy None old new before behind command reply =
     IsAllowed old.market old.standing.history before.known.quotes command reply
     → (new.market ≡ market_after old.market old.standing (OfCommand command) reply)

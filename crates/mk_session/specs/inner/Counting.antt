@@ -67,8 +67,8 @@ is_want _ = false
 
 -- between two lines: the market is the file's with what was added, the lines go on, the counts are
 -- within the lines that were given, and the count is so far
-pub record IsCounting (start : Market) (trading : Trading) (all : List ℕ) (lines : Cutting)
-    (source : List ℕ) (tally : Tally) : Type 0 where
+pub record IsCounting {Own : Type 0} (start : Market) (trading : Trading Own) (all : List ℕ)
+    (lines : Cutting) (source : List ℕ) (tally : Tally) : Type 0 where
   pub market : IsAt start trading
   pub goes_on : GoesOn lines.last
   pub fits : IsWithin lines.given tally

@@ -31,7 +31,8 @@ abbrev pub IsSoundAt : Market → Standing → Type 0
 IsSoundAt market now = IsSound (present market now.history).network now.history
 
 -- a market answered a command by a reply, whose line this is
-pub record IsPrinted (old new : Trading) (command : Command) (line : List ℕ) : Type 0 where
+pub record IsPrinted {Own : Type 0} (old new : Trading Own) (command : Command)
+    (line : List ℕ) : Type 0 where
   pub reply : Reply
   pub answered : IsAnswered old new command reply
   pub printed : line ≡ reply_line reply
@@ -88,7 +89,7 @@ IsSoFar start all cutting source now before written waits =
 
 -- before the first line: a market stands as the run begins, all commands are told, and the head is
 -- written
-pub record IsBegun (start : Start) (trading : Trading) (all : List ℕ)
+pub record IsBegun {Own : Type 0} (start : Start) (trading : Trading Own) (all : List ℕ)
     (source before written : Option (List ℕ)) : Type 0 where
   pub market : IsAt start.market trading
   pub standing : trading.standing ≡ start.standing

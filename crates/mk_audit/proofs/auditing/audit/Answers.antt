@@ -7,5 +7,5 @@ use Rattle.mk_audit.proofs.auditing.audit.Goals as goal
 pub returns-in-Ok-clause-ends : goal.returns-in-Ok-clause-ends
 returns-in-Ok-clause-ends g c = λ all told.
     subst (λ (m : Market). AuditEnds c.audit_market-ended.result m all c.args.transcript.now)
-    (ap (λ (t : Trading). t.market) c.in-Ok.ensures.opened)
+    (ap (λ (t : Trading _). t.market) c.in-Ok.ensures.opened)
     (c.audit_market-ended.ensures.ends all told)

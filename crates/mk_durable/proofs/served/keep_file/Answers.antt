@@ -14,7 +14,7 @@ returns-in-Err-clause-kept g c = λ n bytes stored all named place told_all told
 
 pub returns-in-Ok-clause-outcome : goal.returns-in-Ok-clause-outcome
 returns-in-Ok-clause-outcome g c = λ n bytes stored all named place told_all told_file sound.
-    let same = ap (λ (t : Trading). t.market) c.in-Ok.ensures.opened in
+    let same = ap (λ (t : Trading _). t.market) c.in-Ok.ensures.opened in
     subst (λ (m : Market). OpenedKeep c.keep_market-status.result (Ok m) bytes stored all
     (g.I.Inputs.commands c.keep_market-status.new.inputs) (g.S.Sink.written c.args.out.now)
     (g.S.Sink.written c.keep_market-status.new.out)) same
@@ -23,7 +23,7 @@ returns-in-Ok-clause-outcome g c = λ n bytes stored all named place told_all to
 
 pub returns-in-Ok-clause-kept : goal.returns-in-Ok-clause-kept
 returns-in-Ok-clause-kept g c = λ n bytes stored all named place told_all told_file honest.
-    let same = ap (λ (t : Trading). t.market) c.in-Ok.ensures.opened in
+    let same = ap (λ (t : Trading _). t.market) c.in-Ok.ensures.opened in
     subst (λ (m : Market). KeepsChanges (Ok m) bytes stored all (g.S.Sink.written c.args.out.now)
     (g.S.Sink.written c.keep_market-status.new.out) (g.K.Disk.may_leave c.args.disk.now n)
     (g.K.Disk.may_leave c.keep_market-status.new.disk n)
@@ -37,7 +37,7 @@ returns-in-Ok-clause-kept g c = λ n bytes stored all named place told_all told_
 pub returns-in-Ok-clause-complete : goal.returns-in-Ok-clause-complete
 returns-in-Ok-clause-complete g c = λ n bytes stored all named place told_all told_file honest
     within disk_steady inputs_steady sink_steady.
-    let same = ap (λ (t : Trading). t.market) c.in-Ok.ensures.opened in
+    let same = ap (λ (t : Trading _). t.market) c.in-Ok.ensures.opened in
     c.keep_market-status.ensures.complete n bytes stored all named place told_all told_file
     (subst (λ (m : Market). IsHonest m bytes stored) (sym same) honest) within disk_steady
     inputs_steady sink_steady

@@ -5,7 +5,7 @@ use Rattle.mk_exact.specs.History.{users}
 use Rattle.mk_file.specs.MarketOf.{market_of}
 use Rattle.mk_evidence.specs.Grades.{evidence_grade}
 use Rattle.mk_evidence.proofs.Grading.{gain_within}
-use Rattle.mk_evidence.proofs.Evidenced.{same_trading, payment_found}
+use Rattle.mk_evidence.proofs.Evidenced.{only_asked, payment_found}
 use Rattle.mk_market.proofs.EveryValue.{position_kept}
 use Rattle.mk_market.proofs.Growing.{is_open}
 use Rattle.mk_market.proofs.Lent.{in_range}
@@ -17,7 +17,7 @@ pub assets-requires : goal.assets-requires
 assets-requires g c =
     in_range c.learn.new.users (users c.market.inside.journal.history) c.args.user
     (c.learn.ensures.names ∙ c.market.invariant.named)
-    (subst (λ (t : Trading). c.args.user < length (users t.standing.history))
+    (subst (λ (t : Trading _). c.args.user < length (users t.standing.history))
     (sym c.market.view_is) c.requires)
 
 pub least_of-requires : goal.least_of-requires
@@ -48,10 +48,10 @@ invariant_of-market g c =
 pub returns-clause-same : goal.returns-clause-same
 returns-clause-same g c =
     let i = c.market.inside in
-    same_trading i.file i.ledger i.journal i.users _
+    only_asked i.file i.ledger i.journal i.users _
     (quotes_same c.learn.new.users c.args.user c.assets.result.now c.least_of.new.assets
     c.assets.ensures.value ∙ c.learn.ensures.quotes)
-    ∙ c.market.view_is
+    c.args.market.now c.market.view_is
 
 pub returns-clause-evidence : goal.returns-clause-evidence
 returns-clause-evidence g c =

@@ -10,7 +10,7 @@ use Rattle.mk_market.specs.inner.Stopped.{IsConditionBy}
 use Rattle.mk_beliefs.specs.Meanings.{gains_of}
 use Rattle.mk_evidence.specs.Grades.{evidence_grade}
 use Rattle.mk_evidence.proofs.Grading.{gain_within}
-use Rattle.mk_evidence.proofs.Evidenced.{asked_refused, same_trading, position_found}
+use Rattle.mk_evidence.proofs.Evidenced.{asked_refused, only_asked, position_found}
 use Rattle.mk_evidence.proofs.Evidenced.{position_stopped}
 use Rattle.mk_market.proofs.EveryValue.{can_refuse_told, known_of, position_kept}
 use Rattle.mk_market.proofs.Growing.{is_open}
@@ -110,10 +110,10 @@ invariant_of-market-in-None g c =
 pub returns-in-Some-clause-same : goal.returns-in-Some-clause-same
 returns-in-Some-clause-same g c =
     let i = c.market.inside in
-    same_trading i.file i.ledger i.journal i.users _
+    only_asked i.file i.ledger i.journal i.users _
     (quotes_same c.learn.new.users c.in_ok-request.request.user c.assets.result.now
     c.sure_factors_of.new.assets c.assets.ensures.value ∙ c.learn.ensures.quotes)
-    ∙ c.market.view_is
+    c.args.market.now c.market.view_is
 
 pub returns-in-Some-clause-evidence : goal.returns-in-Some-clause-evidence
 returns-in-Some-clause-evidence g c =
@@ -137,10 +137,10 @@ returns-in-Some-clause-evidence g c =
 pub returns-in-None-clause-same : goal.returns-in-None-clause-same
 returns-in-None-clause-same g c =
     let i = c.market.inside in
-    same_trading i.file i.ledger i.journal i.users _
+    only_asked i.file i.ledger i.journal i.users _
     (quotes_same c.learn.new.users c.in_ok-request.request.user c.assets.result.now
     c.sure_factors_of.new.assets c.assets.ensures.value ∙ c.learn.ensures.quotes)
-    ∙ c.market.view_is
+    c.args.market.now c.market.view_is
 
 pub returns-in-None-clause-evidence : goal.returns-in-None-clause-evidence
 returns-in-None-clause-evidence g c =

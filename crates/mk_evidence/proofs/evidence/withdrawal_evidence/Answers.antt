@@ -5,7 +5,7 @@ use Rattle.mk_file.specs.MarketOf.{market_of}
 use Rattle.mk_beliefs.specs.Meanings.{gains_of}
 use Rattle.mk_evidence.specs.Grades.{evidence_grade}
 use Rattle.mk_evidence.proofs.Grading.{gain_within}
-use Rattle.mk_evidence.proofs.Evidenced.{asked_refused, same_trading, worst_found}
+use Rattle.mk_evidence.proofs.Evidenced.{asked_refused, only_asked, worst_found}
 use Rattle.mk_market.proofs.Growing.{is_open}
 use Rattle.mk_market.proofs.Lent.{in_range}
 use Rattle.mk_market.proofs.Owned.{quotes_same}
@@ -51,10 +51,10 @@ invariant_of-market g c =
 pub returns-clause-same : goal.returns-clause-same
 returns-clause-same g c =
     let i = c.market.inside in
-    same_trading i.file i.ledger i.journal i.users _
+    only_asked i.file i.ledger i.journal i.users _
     (quotes_same c.learn.new.users c.in_ok-user.user c.assets.result.now c.least_of.new.assets
     c.assets.ensures.value ∙ c.learn.ensures.quotes)
-    ∙ c.market.view_is
+    c.args.market.now c.market.view_is
 
 pub returns-clause-evidence : goal.returns-clause-evidence
 returns-clause-evidence g c =

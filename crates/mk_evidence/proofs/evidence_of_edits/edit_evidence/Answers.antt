@@ -7,7 +7,7 @@ use Rattle.mk_file.specs.MarketOf.{market_of}
 use Rattle.mk_beliefs.specs.Meanings.{weights_of}
 use Rattle.mk_evidence.specs.declared.evidence_of_edits.EditEvidence.{EditEvidence}
 use Rattle.mk_evidence.specs.Evidence.{IsEditEvidence}
-use Rattle.mk_evidence.proofs.Evidenced.{asked_refused, asked_in, stopped_in, same_trading}
+use Rattle.mk_evidence.proofs.Evidenced.{asked_refused, asked_in, stopped_in, only_asked}
 use Rattle.mk_evidence.proofs.Evidenced.{edit_found}
 use Rattle.mk_market.proofs.Growing.{is_open}
 use Rattle.mk_market.proofs.Lent.{in_range}
@@ -73,8 +73,8 @@ invariant_of-market g c =
 pub returns-in-Ok-clause-same : goal.returns-in-Ok-clause-same
 returns-in-Ok-clause-same g c =
     let i = c.market.inside in
-    same_trading i.file i.ledger i.journal i.users c.edit_bounds.new.users
-    c.edit_bounds.ensures.quotes ∙ c.market.view_is
+    only_asked i.file i.ledger i.journal i.users c.edit_bounds.new.users
+    c.edit_bounds.ensures.quotes c.args.market.now c.market.view_is
 
 pub returns-in-Ok-clause-evidence : goal.returns-in-Ok-clause-evidence
 returns-in-Ok-clause-evidence g c =
@@ -111,8 +111,8 @@ invariant_of-market-in-Err g c =
 pub returns-in-Err-clause-same : goal.returns-in-Err-clause-same
 returns-in-Err-clause-same g c =
     let i = c.market.inside in
-    same_trading i.file i.ledger i.journal i.users c.edit_bounds.new.users
-    c.edit_bounds.ensures.quotes ∙ c.market.view_is
+    only_asked i.file i.ledger i.journal i.users c.edit_bounds.new.users
+    c.edit_bounds.ensures.quotes c.args.market.now c.market.view_is
 
 pub returns-in-Err-clause-evidence : goal.returns-in-Err-clause-evidence
 returns-in-Err-clause-evidence g c =

@@ -6,7 +6,7 @@ use Rattle.mk_command.specs.declared.command.Command.TheVariants.{Bounds}
 use Rattle.mk_quote.specs.Questions.{spread_in}
 use Rattle.mk_market.specs.declared.possible.Stopped.TheVariants.{Decided}
 use Rattle.mk_market.specs.inner.Stopped.{IsRefusedFor}
-use Rattle.mk_evidence.proofs.Evidenced.{asked_refused, same_trading, spread_found}
+use Rattle.mk_evidence.proofs.Evidenced.{asked_refused, only_asked, spread_found}
 use Rattle.mk_evidence.proofs.EvidencedSpreads.{two_first}
 use Rattle.mk_market.proofs.Growing.{is_open}
 use Rattle.mk_market.proofs.Lent.{in_range}
@@ -76,8 +76,8 @@ invariant_of-market g c =
 pub returns-in-Ok-clause-same : goal.returns-in-Ok-clause-same
 returns-in-Ok-clause-same g c =
     let i = c.market.inside in
-    same_trading i.file i.ledger i.journal i.users c.spread_bounds.new.users
-    c.spread_bounds.ensures.quotes ∙ c.market.view_is
+    only_asked i.file i.ledger i.journal i.users c.spread_bounds.new.users
+    c.spread_bounds.ensures.quotes c.args.market.now c.market.view_is
 
 pub returns-in-Ok-clause-evidence : goal.returns-in-Ok-clause-evidence
 returns-in-Ok-clause-evidence g c =
@@ -113,8 +113,8 @@ invariant_of-market-in-Err g c =
 pub returns-in-Err-clause-same : goal.returns-in-Err-clause-same
 returns-in-Err-clause-same g c =
     let i = c.market.inside in
-    same_trading i.file i.ledger i.journal i.users c.spread_bounds.new.users
-    c.spread_bounds.ensures.quotes ∙ c.market.view_is
+    only_asked i.file i.ledger i.journal i.users c.spread_bounds.new.users
+    c.spread_bounds.ensures.quotes c.args.market.now c.market.view_is
 
 pub returns-in-Err-clause-evidence : goal.returns-in-Err-clause-evidence
 returns-in-Err-clause-evidence g c =

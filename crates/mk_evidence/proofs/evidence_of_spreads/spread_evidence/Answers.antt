@@ -8,7 +8,7 @@ use Rattle.mk_quote.specs.Questions.{spread_in}
 use Rattle.mk_evidence.specs.Grades.{evidence_grade}
 use Rattle.mk_evidence.specs.inner.Finding.{ArePlacedBounds, IsStoppedAnew}
 use Rattle.mk_market.specs.inner.Stopped.{IsRefusedFor}
-use Rattle.mk_evidence.proofs.Evidenced.{asked_refused, same_trading, spread_found}
+use Rattle.mk_evidence.proofs.Evidenced.{asked_refused, only_asked, spread_found}
 use Rattle.mk_evidence.proofs.EvidencedSpreads.{placed_first, stopped_first, anew_may_stop}
 use Rattle.mk_market.proofs.Growing.{is_open}
 use Rattle.mk_market.proofs.Lent.{in_range}
@@ -104,8 +104,8 @@ invariant_of-market g c =
 pub returns-in-Ok-clause-same : goal.returns-in-Ok-clause-same
 returns-in-Ok-clause-same g c =
     let i = c.market.inside in
-    same_trading i.file i.ledger i.journal i.users c.placed_bounds.new.users
-    c.placed_bounds.ensures.quotes ∙ c.market.view_is
+    only_asked i.file i.ledger i.journal i.users c.placed_bounds.new.users
+    c.placed_bounds.ensures.quotes c.args.market.now c.market.view_is
 
 pub returns-in-Ok-clause-evidence : goal.returns-in-Ok-clause-evidence
 returns-in-Ok-clause-evidence g c =
@@ -146,8 +146,8 @@ invariant_of-market-in-Err g c =
 pub returns-in-Err-clause-same : goal.returns-in-Err-clause-same
 returns-in-Err-clause-same g c =
     let i = c.market.inside in
-    same_trading i.file i.ledger i.journal i.users c.placed_bounds.new.users
-    c.placed_bounds.ensures.quotes ∙ c.market.view_is
+    only_asked i.file i.ledger i.journal i.users c.placed_bounds.new.users
+    c.placed_bounds.ensures.quotes c.args.market.now c.market.view_is
 
 pub returns-in-Err-clause-evidence : goal.returns-in-Err-clause-evidence
 returns-in-Err-clause-evidence g c =

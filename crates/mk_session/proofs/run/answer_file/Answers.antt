@@ -9,7 +9,7 @@ returns-in-Done-clause-outcome g c = λ all told.
     subst (λ (m : Market). IsHandedBack c.answer_market.new.market (Ok m) all
     (g.I.Inputs.commands c.answer_market.new.inputs)
     (g.S.Sink.written c.args.out.now) (g.S.Sink.written c.answer_market.new.out))
-    (ap (λ (t : Trading). t.market) c.in-Ok.ensures.opened)
+    (ap (λ (t : Trading _). t.market) c.in-Ok.ensures.opened)
     (c.answer_market.ensures.done c.in-Done.is all told)
 
 pub returns-in_default-clause-outcome : goal.returns-in_default-clause-outcome
@@ -17,5 +17,5 @@ returns-in_default-clause-outcome g c = λ all told.
     subst (λ (m : Market). Opened c.answer_market.result (Ok m) all
     (g.I.Inputs.commands c.answer_market.new.inputs)
     (g.S.Sink.written c.args.out.now) (g.S.Sink.written c.answer_market.new.out))
-    (ap (λ (t : Trading). t.market) c.in-Ok.ensures.opened)
+    (ap (λ (t : Trading _). t.market) c.in-Ok.ensures.opened)
     (c.answer_market.ensures.outcome all told)

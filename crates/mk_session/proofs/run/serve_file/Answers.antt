@@ -9,5 +9,5 @@ returns-in-Ok-clause-outcome g c = λ all told.
     subst (λ (m : Market). Opened c.answer_market-status.result (Ok m) all
     (g.I.Inputs.commands c.answer_market-status.new.inputs)
     (g.S.Sink.written c.args.out.now) (g.S.Sink.written c.answer_market-status.new.out))
-    (ap (λ (t : Trading). t.market) c.in-Ok.ensures.opened)
+    (ap (λ (t : Trading _). t.market) c.in-Ok.ensures.opened)
     (c.answer_market-status.ensures.outcome all told)

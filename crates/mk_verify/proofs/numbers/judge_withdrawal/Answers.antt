@@ -10,7 +10,7 @@ returns-then-tells_withdrawal-clause-judged g c =
     let found = c.in-Ok.ensures.evidence in
     judges_same market H (Withdraw c.args.name.now c.args.bits) c.args.reply.now _
     c.judge_covered.result
-    ((rw c.withdrawal_evidence.ensures.same at c.tells_withdrawal.ensures).0
+    ((rw c.withdrawal_evidence.ensures.same.standing at c.tells_withdrawal.ensures).0
     c.if-tells_withdrawal.true)
     (withdrawn_told market H c.args.name.now c.args.bits found.0 c.in-Ok.factor
     c.judge_covered.result found.1
@@ -27,7 +27,7 @@ returns-in-Some-clause-judged g c =
     c.judge_most.result told.1
     (short_told market H c.args.name.now c.args.bits found.0 c.in-Ok.factor c.args.small
     c.max_trades.result c.in-Some.most c.judge_most.result told.0 found.1 c.requires.small
-    (rw c.withdrawal_evidence.ensures.same at c.max_trades.ensures)
+    (rw c.withdrawal_evidence.ensures.same.market at c.max_trades.ensures)
     (record { allowed = says.allowed; wrong = says.wrong; unclear = says.unclear }))
 
 pub returns-in-None-clause-judged : goal.returns-in-None-clause-judged
@@ -35,6 +35,7 @@ returns-in-None-clause-judged g c =
     let market = c.args.market.now.market in
     let H = c.args.market.now.standing.history in
     let found = c.in-Ok.ensures.evidence in
+    let same = c.withdrawal_evidence.ensures.same in
+    let tells = rw same.standing at c.tells_withdrawal.ensures in
     not_taken market H c.args.name.now c.args.bits found.0 c.args.reply.now
-    (λ told. let yes = (rw c.withdrawal_evidence.ensures.same at c.tells_withdrawal.ensures).1 told
-    in absurd (cc)) c.in-None.ensures.none
+    (λ told. let yes = tells.1 told in absurd (cc)) c.in-None.ensures.none

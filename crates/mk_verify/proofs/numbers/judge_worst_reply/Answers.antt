@@ -12,6 +12,6 @@ returns-in-Worst-clause-judged g c =
     c.in-Worst.is
     (worst_told market H c.args.name.now c.in-Ok.factor c.args.small c.max_trades.result
     c.points_per_bit.result c.in-Worst.low c.in-Worst.high c.judge_cash.result found.0 found.1
-    c.requires.small (rw c.worst_evidence.ensures.same at c.max_trades.ensures)
-    (rw c.worst_evidence.ensures.same at c.points_per_bit.ensures.points)
+    c.requires.small (rw c.worst_evidence.ensures.same.market at c.max_trades.ensures)
+    (rw c.worst_evidence.ensures.same.market at c.points_per_bit.ensures.points)
     (record { allowed = says.allowed; wrong = says.wrong; unclear = says.unclear }))

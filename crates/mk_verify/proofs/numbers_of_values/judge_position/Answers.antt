@@ -18,8 +18,8 @@ returns-in-Position-clause-judged g c =
     let H = c.args.market.now.standing.history in
     let u = user_number H c.args.name.now in
     let found = c.in-Ok.ensures.evidence in
-    let trades = rw c.position_evidence.ensures.same at c.max_trades.ensures in
-    let points = rw c.position_evidence.ensures.same at c.points_per_bit.ensures.points in
+    let trades = rw c.position_evidence.ensures.same.market at c.max_trades.ensures in
+    let points = rw c.position_evidence.ensures.same.market at c.points_per_bit.ensures.points in
     let judged = rw (c.as_slice.ensures.value, c.as_slice-in-Position.ensures.value) at
     (c.judge_each_position.ensures market H u) in
     judges_same market H (Position c.args.name.now c.args.variable.now c.args.condition.now)

@@ -8,7 +8,7 @@ returns-clause-judged g c state sound one =
     c.args.payment.now c.payment_evidence-factor.result c.args.small c.max_trades.result
     c.points_per_bit.result c.judge_cash.result c.requires.small sound
     (c.payment_evidence-factor.ensures.evidence state one)
-    (rw c.payment_evidence-factor.ensures.same at c.max_trades.ensures)
-    (rw c.payment_evidence-factor.ensures.same at c.points_per_bit.ensures.points)
+    (rw c.payment_evidence-factor.ensures.same.market at c.max_trades.ensures)
+    (rw c.payment_evidence-factor.ensures.same.market at c.points_per_bit.ensures.points)
     c.if-payment.false
     (record { allowed = says.allowed; wrong = says.wrong; unclear = says.unclear })

@@ -9,17 +9,17 @@ use Rattle.mk_durable.proofs.durable.Durable.apply.Goals as goal
 
 pub answer_and_keep-requires-clause-prices : goal.answer_and_keep-requires-clause-prices
 answer_and_keep-requires-clause-prices g c =
-    subst (λ (d : DurableOf). SuitsNext g.P.Engine.suits d.trading c.args.command.now)
+    subst (λ (d : DurableOf _). SuitsNext g.P.Engine.suits d.trading c.args.command.now)
     (sym c.self.view_is) c.requires.prices
 
 pub answer_and_keep-requires-clause-assets : goal.answer_and_keep-requires-clause-assets
 answer_and_keep-requires-clause-assets g c =
-    subst (λ (d : DurableOf). SuitsNext g.A.Engine.suits d.trading c.args.command.now)
+    subst (λ (d : DurableOf _). SuitsNext g.A.Engine.suits d.trading c.args.command.now)
     (sym c.self.view_is) c.requires.assets
 
 pub returns-in-Ok-clause-kept : goal.returns-in-Ok-clause-kept
 returns-in-Ok-clause-kept g c n bytes records named opened held =
-    subst (λ (d : DurableOf).
+    subst (λ (d : DurableOf _).
     IsHeld (g.K.Disk.file c.args.disk.now n) (g.K.Disk.may_leave c.args.disk.now n) d.store bytes
     records []
     → IsApplied d.trading c.answer_and_keep.new.market c.args.command.now
@@ -34,7 +34,7 @@ returns-in-Ok-clause-kept g c n bytes records named opened held =
 
 pub returns-in-Err-clause-kept : goal.returns-in-Err-clause-kept
 returns-in-Err-clause-kept g c n bytes records named opened held =
-    subst (λ (d : DurableOf).
+    subst (λ (d : DurableOf _).
     IsHeld (g.K.Disk.file c.args.disk.now n) (g.K.Disk.may_leave c.args.disk.now n) d.store bytes
     records []
     → IsApplied d.trading c.answer_and_keep.new.market c.args.command.now

@@ -28,7 +28,7 @@ returns-in_err-resumed-clause-refused g c n f named told =
     let p = err_from_is_err_and c.from_residual-in_err-resumed.result
     c.from_residual-in_err-resumed.ensures.1 in
     rw (p.1, p.2) (subst (λ (m : Market). IsRefused m c.args.bytes.now f
-    c.in_err-resumed.field-0.0) (ap (λ (t : Trading). t.market) c.in_ok-market.ensures.opened)
+    c.in_err-resumed.field-0.0) (ap (λ (t : Trading _). t.market) c.in_ok-market.ensures.opened)
     (c.in_err-resumed.ensures.refused n c.args.bytes.now f named
     (c.deref.ensures.value ∙ c.in_ok-header.ensures) told))
 
@@ -48,7 +48,7 @@ returns-clause-resumed g c n f named told =
     subst (λ (m : Market). IsResumed m c.args.bytes.now f c.resume.new.market.standing.history
     (g.K.Disk.file c.resume.new.disk n) (g.K.Disk.may_leave c.resume.new.disk n)
     c.in_ok-resumed.resumed.store (length c.resume.new.market.standing.history))
-    (ap (λ (t : Trading). t.market) c.in_ok-market.ensures.opened)
+    (ap (λ (t : Trading _). t.market) c.in_ok-market.ensures.opened)
     (subst (λ (count : ℕ). IsResumed c.in_ok-market.market.market c.args.bytes.now f
     c.resume.new.market.standing.history
     (g.K.Disk.file c.resume.new.disk n) (g.K.Disk.may_leave c.resume.new.disk n)
@@ -64,4 +64,4 @@ returns-clause-any_moment g c n f named told =
 pub returns-clause-market : goal.returns-clause-market
 returns-clause-market g c =
     subst (λ (m : Market). IsAt m c.resume.new.market)
-    (ap (λ (t : Trading). t.market) c.in_ok-market.ensures.opened) c.resume.ensures.market
+    (ap (λ (t : Trading _). t.market) c.in_ok-market.ensures.opened) c.resume.ensures.market
