@@ -67,13 +67,14 @@ impl Narrow {
             → IsTreeOf network tree
             → IfOk result (λ narrow. IsNarrow narrow (opening network tree)) }
     {
+        // The shorter lists first: then the places where lists begin lie in fewer pages of memory.
         Ok(Narrow {
-            groups: Groups::none(alloc)?,
-            kept: Vec::with_capacity(alloc, MAX_GROUPS)?,
-            is_kept: false,
-            trades: Vec::with_capacity(alloc, MAX_TRADES)?,
-            known: Vec::with_capacity(alloc, MAX_KNOWN)?,
             homes: Vec::with_capacity(alloc, MAX_KNOWN)?,
+            known: Vec::with_capacity(alloc, MAX_KNOWN)?,
+            kept: Vec::with_capacity(alloc, MAX_GROUPS)?,
+            groups: Groups::none(alloc)?,
+            trades: Vec::with_capacity(alloc, MAX_TRADES)?,
+            is_kept: false,
         })
     }
 

@@ -10,9 +10,10 @@ use Rattle.mk_user_engine.proofs.narrow.Narrow.none.Goals as goal
 
 pub returns : goal.returns
 returns c = λ network tree legal is.
-    let kept = c.in_ok-with_capacity.ensures in
-    let trades = c.in_ok-with_capacity-2.ensures in let known = c.in_ok-with_capacity-3.ensures
-    in let homes = c.in_ok-with_capacity-4.ensures in
+    let homes = c.in_ok-with_capacity.ensures in
+    let known = c.in_ok-with_capacity-2.ensures in
+    let kept = c.in_ok-with_capacity-3.ensures in
+    let trades = c.in_ok-with_capacity-4.ensures in
     let groups = c.in_ok-none.field-0 in
     let no_trade = ap (λ (ts : List PlacedRatio). length ts) trades.items in
     let no_pair = ap (λ (ps : List Pair). length ps) known.items in

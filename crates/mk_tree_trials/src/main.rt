@@ -20,3 +20,6 @@ mod trees;
 mod walks;
 #[cfg(test)]
 mod weather;
+
+/// Nothing: this program is its tests.
+fn main() {}

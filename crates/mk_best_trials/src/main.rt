@@ -6,3 +6,6 @@
 mod chances;
 #[cfg(test)]
 mod peaks;
+
+/// Nothing: this program is its tests.
+fn main() {}

@@ -5,3 +5,6 @@
 
 #[cfg(test)]
 mod crashes;
+
+/// Nothing: this program is its tests.
+fn main() {}

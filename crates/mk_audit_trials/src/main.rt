@@ -4,3 +4,6 @@
 
 #[cfg(test)]
 mod audits;
+
+/// Nothing: this program is its tests.
+fn main() {}

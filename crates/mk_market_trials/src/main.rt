@@ -12,3 +12,6 @@ mod parts;
 mod runs;
 #[cfg(test)]
 mod tallies;
+
+/// Nothing: this program is its tests.
+fn main() {}
