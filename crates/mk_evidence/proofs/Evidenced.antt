@@ -70,9 +70,9 @@ pub only_asked : {A Plan : Type 0} (file : MarketFile) (ledger : LedgerOf)
 only_asked {A} {Plan} file ledger journal members new_members same old view = record {
   market = ap (λ (t : Trading (Assets A Plan)). t.market) view;
   standing = ap (λ (qs : List (Option LastQuote)). record {
-        history = journal.history;
-        quotes = map (option_map quoted) qs;
-      }) same
+    history = journal.history;
+    quotes = map (option_map quoted) qs;
+  }) same
       ∙ ap (λ (t : Trading (Assets A Plan)). t.standing) view;
   accounts = ap (λ (t : Trading (Assets A Plan)). t.accounts) view;
 }

@@ -1,4 +1,4 @@
-use Rattle.std.proofs.Common.{List, Some, refl, sym, ◌∙◌}
+use Rattle.std.proofs.Common.{List, Some, refl, sym}
 use Rattle.std.specs.Prelude.{Ok}
 use Rattle.mk_exact.specs.Market.{Market}
 use Rattle.mk_command.specs.declared.command.Command.TheVariants.{Edit}

@@ -1,4 +1,4 @@
-use Rattle.std.proofs.Common.{List, [], refl, sym, subst, ◌∙◌}
+use Rattle.std.proofs.Common.{List, [], refl, sym, subst}
 use Rattle.mk_exact.specs.History.{users}
 use Rattle.mk_net.specs.declared.words.PairText.{PairText}
 use Rattle.mk_file.specs.MarketOf.{market_of}

@@ -1,4 +1,4 @@
-use Rattle.std.proofs.Common.{◌≡◌, ℕ, List, length, slice_index, refl, sym, subst, ◌∙◌}
+use Rattle.std.proofs.Common.{◌≡◌, ℕ, List, length, slice_index, refl, sym, subst}
 use Rattle.mk_net.specs.Network.{sizes}
 use Rattle.mk_exact.specs.History.{users}
 use Rattle.mk_net.specs.declared.words.PairText.{PairText}
