@@ -9,21 +9,21 @@ use Rattle.mk_market.specs.Trading.{Trading, IsAt}
 
 module _ {Own : Type 0} (start : Market) (old new : Trading Own) (command : Command) (reply : Reply)
   where
-  moves_on : IsAt start old
-      → new.market ≡ market_after old.market old.standing (OfCommand command) reply
-      → new.standing ≡ after old.market old.standing (OfCommand command) reply → IsAt start new
-  moves_on here market next =
-      let line = OfCommand command in
-      market ∙ ap (λ (m : Market). market_after m old.standing line reply) here
-      ∙ sym (present_next start old.standing line reply)
-      ∙ ap (λ (m : Market). present start (after m old.standing line reply).history) (sym here)
-      ∙ ap (λ (s : Standing). present start s.history) (sym next)
+    moves_on : IsAt start old
+        → new.market ≡ market_after old.market old.standing (OfCommand command) reply
+        → new.standing ≡ after old.market old.standing (OfCommand command) reply → IsAt start new
+    moves_on here market next =
+        let line = OfCommand command in
+        market ∙ ap (λ (m : Market). market_after m old.standing line reply) here
+        ∙ sym (present_next start old.standing line reply)
+        ∙ ap (λ (m : Market). present start (after m old.standing line reply).history) (sym here)
+        ∙ ap (λ (s : Standing). present start s.history) (sym next)
 
-  -- and where it is not taken back, nothing moved
-  pub at_tried : {T E : Type 0} (result : Result T E)
-      → OnOk result (new.market ≡ market_after old.market old.standing (OfCommand command) reply)
-      → OnOk result (new.standing ≡ after old.market old.standing (OfCommand command) reply)
-      → OnErr result (new ≡ old) → IsAt start old → IsAt start new
-  at_tried (Ok value) market next same here = moves_on here market next
-  at_tried (Err fault) market next same here =
-      subst (λ (t : Trading Own). IsAt start t) (sym same) here
+    -- and where it is not taken back, nothing moved
+    pub at_tried : {T E : Type 0} (result : Result T E)
+        → OnOk result (new.market ≡ market_after old.market old.standing (OfCommand command) reply)
+        → OnOk result (new.standing ≡ after old.market old.standing (OfCommand command) reply)
+        → OnErr result (new ≡ old) → IsAt start old → IsAt start new
+    at_tried (Ok value) market next same here = moves_on here market next
+    at_tried (Err fault) market next same here =
+        subst (λ (t : Trading Own). IsAt start t) (sym same) here
