@@ -14,8 +14,9 @@ use Rattle.mk_assets.specs.declared.assets.Assets.{Assets}
 use Rattle.mk_command.specs.declared.command.Command.{Command}
 use Rattle.mk_command.specs.declared.command.Command.TheVariants.{User, Deposit, Withdraw, Price}
 use Rattle.mk_command.specs.declared.command.Command.TheVariants.{Limits, Edit, Bounds, Spread}
-use Rattle.mk_command.specs.declared.command.Command.TheVariants.{Worst, Paid, Resolve, Settle, Bound}
-use Rattle.mk_command.specs.declared.command.Command.TheVariants.{Prices, Position, Status, Add}
+use Rattle.mk_command.specs.declared.command.Command.TheVariants.{Worst, Paid, Resolve, Settle}
+use Rattle.mk_command.specs.declared.command.Command.TheVariants.{Bound, Prices, Position, Status}
+use Rattle.mk_command.specs.declared.command.Command.TheVariants.{Add}
 use Rattle.mk_record.specs.declared.last_quote.LastQuote.{LastQuote}
 use Rattle.mk_record.specs.declared.users.Member.{Member}
 use Rattle.mk_record.specs.Members.{new_member, names_of, assets_of, with_assets, with_quote}
@@ -104,7 +105,7 @@ module _ {A Plan : Type 0} where
       each_owns members (users later)
       (named ∙ sym (users_kept H e stays) ∙ sym (ap users history))
 
-  -- a command that names a user leaves all others apart, where the user's assets alone were written to
+  -- a command that names a user leaves all others apart, where it writes to the user's assets alone
   pub others_left : (H : List Entry) (name : List ℕ) (user : ℕ) → IsUser H name user
       → (members new_members : List (Member A Plan)) → OwnApart user members new_members
       → (u : ℕ) (other : List ℕ) → slice_get (users H) u ≡ Some other

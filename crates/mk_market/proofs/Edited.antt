@@ -52,7 +52,8 @@ use Rattle.mk_market.specs.Trading.{Trading, IsAnswered}
 use Rattle.mk_market.specs.inner.Answering.{IsAnsweredBy}
 use Rattle.mk_market.specs.inner.Keeping.{quoted, standing_of, IsKeptQuote, IsKept}
 use Rattle.mk_market.specs.inner.Quoting.{IsQuoteOf}
-use Rattle.mk_market.proofs.Apart.{EachOwns, AreApart, left_alone, each_owns, each_owns_then, others_left}
+use Rattle.mk_market.proofs.Apart.{EachOwns, AreApart, left_alone, each_owns}
+use Rattle.mk_market.proofs.Apart.{each_owns_then, others_left}
 use Rattle.mk_market.proofs.Growing.{is_open}
 use Rattle.mk_market.proofs.Quotes.{trading, AreQuoted, quote_said, standing_quoted}
 use Rattle.mk_market.proofs.Replies.{answer_allowed, refusal_allowed, none_appended, nothing_added}
@@ -65,7 +66,8 @@ use Rattle.mk_replay.specs.Tills.{TillOf}
 -- ---- a refusal
 
 -- an edit that a refusal of the table meets leaves the standing
-refused_answered : {Own : Type 0} → (old : Trading Own) → EachOwns old → (name : List ℕ) (q : QuestionText) (X : ℕ) (seen : Option ℕ) (why : Refusal)
+refused_answered : {Own : Type 0} → (old : Trading Own) → EachOwns old → (name : List ℕ)
+    (q : QuestionText) (X : ℕ) (seen : Option ℕ) (why : Refusal)
     → Some why ≡ first_refusal old.market old.standing.history (Edit name q X seen) → IsAnswered old old (Edit name q X seen) (Refused why)
 refused_answered old owns name q X seen why e = record {
   market = refl;
@@ -78,14 +80,16 @@ refused_answered old owns name q X seen why e = record {
 }
 
 pub edit_refused_answered : {Own F : Type 0} → (tell : F → Reply) (old known : Trading Own)
-    → known ≡ old → EachOwns known → (name : List ℕ) (q : QuestionText) (X : ℕ) (seen : Option ℕ) (why : Refusal)
+    → known ≡ old → EachOwns known
+    → (name : List ℕ) (q : QuestionText) (X : ℕ) (seen : Option ℕ) (why : Refusal)
     (result : Result F Refusal) → IsErrAnd result (λ e. e ≡ why)
     → Some why ≡ first_refusal known.market known.standing.history (Edit name q X seen)
     → IsAnsweredBy old old (Edit name q X seen) result tell
 edit_refused_answered tell old known same owns name q X seen why (Ok found) e refusal = absurd e
 edit_refused_answered {Own} tell old known same owns name q X seen why (Err found) e refusal =
     subst (λ (w : Refusal). IsAnswered old old (Edit name q X seen) (Refused w)) (sym e)
-    (subst (λ (t : Trading Own). IsAnswered t t (Edit name q X seen) (Refused why)) same (refused_answered known owns name q X seen why refusal))
+    (subst (λ (t : Trading Own). IsAnswered t t (Edit name q X seen) (Refused why)) same
+    (refused_answered known owns name q X seen why refusal))
 
 -- ---- a quote
 

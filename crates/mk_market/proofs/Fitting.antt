@@ -38,4 +38,5 @@ rule_count network H b = length-map (numbers_below (length (users H))) (payment_
 
 pub rows_count : (network : List Variable) (H : List Entry) (b : ℕ) (rows : List Payout)
     → map ends rows ≡ payments_by_rule network H b → length rows ≡ length (users H)
-rows_count network H b rows are = sym (length-map rows ends) ∙ ap length are ∙ rule_count network H b
+rows_count network H b rows are =
+    sym (length-map rows ends) ∙ ap length are ∙ rule_count network H b

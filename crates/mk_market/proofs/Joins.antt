@@ -36,7 +36,9 @@ use Rattle.mk_market.proofs.Replies.{answer_allowed, refused_stays, unsettled}
 use Rattle.mk_replay.specs.Tills.{TillOf}
 
 -- where memory is wanting nothing changes
-pub memory_answered : {Own : Type 0} → (now : Trading Own) → EachOwns now → (name : List ℕ) → None ≡ first_refusal now.market now.standing.history (User name) → IsAnswered now now (User name) (Refused Memory)
+pub memory_answered : {Own : Type 0} → (now : Trading Own) → EachOwns now → (name : List ℕ)
+    → None ≡ first_refusal now.market now.standing.history (User name)
+    → IsAnswered now now (User name) (Refused Memory)
 memory_answered now owns name none = record {
   market = refl;
   allowed = λ sound. answer_allowed now.market now.standing (User name) (Refused Memory) none (inr refl);

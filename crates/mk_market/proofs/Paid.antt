@@ -64,7 +64,8 @@ one_told names rows n before now payment row so_far its_name its_row same low pu
       ∙ sym (map-append ends (take n rows) (row ∷ []))
       ∙ ap (map ends) (sym (take_more rows n row its_row));
   low_ends = subst (AllByRecursion (λ (p : Payment). p.paid ≡ p.low)) (sym pushed)
-      (each-append (λ (p : Payment). p.paid ≡ p.low) before (payment ∷ []) so_far.low_ends (low, tt));
+      (each-append (λ (p : Payment). p.paid ≡ p.low) before (payment ∷ []) so_far.low_ends
+      (low, tt));
 }
 
 -- ---- all

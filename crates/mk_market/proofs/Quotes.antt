@@ -156,25 +156,33 @@ answered_learnt {A} {Plan} file ledger journal members learnt same new command r
       accounts = ledger.accounts;
       assets = assets_of members;
     } in
-    subst (λ (qs : List (Option LastQuote)). IsAnswered (quoted_as qs) new command reply) same (record {
+    subst (λ (qs : List (Option LastQuote)). IsAnswered (quoted_as qs) new command reply) same
+    (record {
       market = is.market;
       allowed = is.allowed;
       next = is.next;
       paid = is.paid;
       one_each = is.one_each;
-      others = subst (λ (qs : List (Option LastQuote)). LeavesOthers (quoted_as qs) new command) (sym same) others;
+      others = subst (λ (qs : List (Option LastQuote)). LeavesOthers (quoted_as qs) new command)
+          (sym same) others;
     })
 
 -- so is one before users who have learnt it, where they are those of the history
-pub answered_before : {A Plan : Type 0} (file : MarketFile) (ledger : LedgerOf) (journal : JournalOf) (members learnt : List (Member A Plan))
-    → quotes_of learnt ≡ quotes_of members → names_of learnt ≡ users journal.history → (command : Command) (reply : Reply)
-    → LeavesOthers (trading file ledger journal members) (trading file ledger journal learnt) command
-    → IsAnswered (trading file ledger journal members) (trading file ledger journal members) command reply
-    → IsAnswered (trading file ledger journal members) (trading file ledger journal learnt) command reply
+pub answered_before : {A Plan : Type 0} (file : MarketFile) (ledger : LedgerOf)
+    (journal : JournalOf) (members learnt : List (Member A Plan))
+    → quotes_of learnt ≡ quotes_of members → names_of learnt ≡ users journal.history
+    → (command : Command) (reply : Reply)
+    → LeavesOthers (trading file ledger journal members)
+    (trading file ledger journal learnt) command
+    → IsAnswered (trading file ledger journal members)
+    (trading file ledger journal members) command reply
+    → IsAnswered (trading file ledger journal members)
+    (trading file ledger journal learnt) command reply
 answered_before file ledger journal members learnt same named command reply others is = record {
   market = is.market;
   allowed = is.allowed;
-  next = ap (λ (qs : List (Option LastQuote)). record { history = journal.history; quotes = map (option_map quoted) qs }) same ∙ is.next;
+  next = ap (λ (qs : List (Option LastQuote)). record
+      { history = journal.history; quotes = map (option_map quoted) qs }) same ∙ is.next;
   paid = is.paid;
   one_each = each_owns learnt (users journal.history) named;
   others = others;

@@ -283,7 +283,8 @@ grown_answered old new add text none has at now =
     }
 
 -- so does one to which a question is added again
-pub grown_taken_back : {Own : Type 0} → (old new : Trading Own) (add : AddText) (reply : Reply) → IsAddText add
+pub grown_taken_back : {Own : Type 0} → (old new : Trading Own) (add : AddText) (reply : Reply)
+    → IsAddText add
     → None ≡ first_refusal old.market old.standing.history (Add add) → HasGrown old new add
     → reply ≡ Added add.variable (revision old.standing.history + 1)
     → IsTakenBack old new (Add add) reply

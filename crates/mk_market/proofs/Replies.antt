@@ -116,7 +116,8 @@ refused_stays market now (Position user variable condition) why h = none_appende
 refused_stays market now Status why h = none_appended market now Status (Refused why) refl refl
 refused_stays market now (Add add) why h = none_appended market now (Add add) (Refused why) refl refl
 
-pub refused_answered : {Own : Type 0} → (old : Trading Own) → EachOwns old → (command : Command) (why : Refusal) → IsNoTrade command
+pub refused_answered : {Own : Type 0} → (old : Trading Own) → EachOwns old
+    → (command : Command) (why : Refusal) → IsNoTrade command
     → Some why ≡ first_refusal old.market old.standing.history command
     → IsAnswered old old command (Refused why)
 refused_answered old owns command why other e = record {
@@ -138,7 +139,8 @@ pub answered_refused : {Own F : Type 0} → (tell : F → Reply) (old known : Tr
 answered_refused tell old known same owns command other why (Ok found) e refusal = absurd e
 answered_refused {Own} tell old known same owns command other why (Err found) e refusal =
     subst (λ (w : Refusal). IsAnswered old old command (Refused w)) (sym e)
-    (subst (λ (t : Trading Own). IsAnswered t t command (Refused why)) same (refused_answered known owns command why other refusal))
+    (subst (λ (t : Trading Own). IsAnswered t t command (Refused why)) same
+    (refused_answered known owns command why other refusal))
 
 -- where no refusal meets a command the market is unsettled, but for one that asks what was paid
 pub unsettled_first : (b : Bool) (why : Refusal) (later : Option Refusal) → None ≡ or_else (fault_if b why) later → b ≡ false

@@ -65,7 +65,8 @@ use Rattle.mk_market.specs.Trading.{Trading, IsAnswered}
 use Rattle.mk_market.specs.inner.Answering.{IsAnsweredBy}
 use Rattle.mk_market.specs.inner.Keeping.{quoted, standing_of, IsKeptQuote, IsKept}
 use Rattle.mk_market.specs.inner.Quoting.{IsSpreadQuoteOf, IsOutside}
-use Rattle.mk_market.proofs.Apart.{EachOwns, AreApart, left_alone, each_owns, each_owns_then, others_left}
+use Rattle.mk_market.proofs.Apart.{EachOwns, AreApart, left_alone, each_owns}
+use Rattle.mk_market.proofs.Apart.{each_owns_then, others_left}
 use Rattle.mk_market.proofs.Growing.{is_open}
 use Rattle.mk_market.proofs.Quotes.{trading, quote_said, standing_quoted}
 use Rattle.mk_market.proofs.Replies.{answer_allowed, refusal_allowed, none_appended, nothing_added}
@@ -77,7 +78,8 @@ use Rattle.mk_replay.specs.Tills.{TillOf}
 -- ---- a refusal
 
 -- a spread that a refusal of the table meets leaves the standing
-pub refused_answered : {Own : Type 0} → (old : Trading Own) → EachOwns old → (name v : List ℕ) (condition : ArrayVec PairText) (to : ArrayVec ℕ) (seen : Option ℕ) (why : Refusal)
+pub refused_answered : {Own : Type 0} → (old : Trading Own) → EachOwns old → (name v : List ℕ)
+    (condition : ArrayVec PairText) (to : ArrayVec ℕ) (seen : Option ℕ) (why : Refusal)
     → Some why ≡ first_refusal old.market old.standing.history (Spread name v condition to seen) → IsAnswered old old (Spread name v condition to seen) (Refused why)
 refused_answered old owns name v condition to seen why e = record {
   market = refl;
@@ -90,7 +92,8 @@ refused_answered old owns name v condition to seen why e = record {
 }
 
 pub spread_refused_answered : {Own F : Type 0} → (tell : F → Reply) (old known : Trading Own)
-    → known ≡ old → EachOwns known → (name v : List ℕ) (condition : ArrayVec PairText) (to : ArrayVec ℕ)
+    → known ≡ old → EachOwns known
+    → (name v : List ℕ) (condition : ArrayVec PairText) (to : ArrayVec ℕ)
     (seen : Option ℕ) (why : Refusal) (result : Result F Refusal) → IsErrAnd result (λ e. e ≡ why)
     → Some why ≡ first_refusal known.market known.standing.history
     (Spread name v condition to seen)
@@ -98,7 +101,8 @@ pub spread_refused_answered : {Own F : Type 0} → (tell : F → Reply) (old kno
 spread_refused_answered tell old known same owns name v condition to seen why (Ok found) e refusal = absurd e
 spread_refused_answered {Own} tell old known same owns name v condition to seen why (Err found) e refusal =
     subst (λ (w : Refusal). IsAnswered old old (Spread name v condition to seen) (Refused w)) (sym e)
-    (subst (λ (t : Trading Own). IsAnswered t t (Spread name v condition to seen) (Refused why)) same (refused_answered known owns name v condition to seen why refusal))
+    (subst (λ (t : Trading Own). IsAnswered t t (Spread name v condition to seen) (Refused why)) same
+    (refused_answered known owns name v condition to seen why refusal))
 
 -- the question of a slice of words is that of their list
 pub question_for : (file : MarketFile) (H : List Entry) (v : List ℕ) (words : List PairText) (condition : ArrayVec PairText) (spread : SpreadAsked) → words ≡ condition.items
@@ -363,7 +367,8 @@ module _ (file : MarketFile) (journal : JournalOf) (open_for : IsOpen file.net f
         ∙ ap (λ (n : ℕ). journal.history ++ option_to_list (option_map (λ (s : SpreadAsked). Trade n (spread_ratio s factors.items)) (spread_named file.net v condition.items))) is_user.number)
         same_quotes
 
-    pub spread_trade_answered : (ledger : LedgerOf) → AreApart user journal.history members new_members
+    pub spread_trade_answered : (ledger : LedgerOf)
+        → AreApart user journal.history members new_members
         → IsAnswered (trading file ledger journal members)
         (trading file ledger new_journal new_members) (Spread name v condition to seen)
         (Spreaded factors at)

@@ -190,7 +190,8 @@ module _ {P A Plan : Type 0} (weights_stand : P → Meaning → Type 0) (gains_s
     -- bounds of a distribution that is decided
     pub decided_answered : (why : SpreadDecided) (found : Refusal) → None ≡ first_of (refusals_by_record (market_of file) journal.history (Bounds name v condition))
         → IsSpreadDecidedBy file.net journal.history spread why → IsRefusedFor file.net journal.history v condition.items spread (stopped.Decided why) found
-        → quotes_of new_members ≡ quotes_of members → AreApart user journal.history members new_members
+        → quotes_of new_members ≡ quotes_of members
+        → AreApart user journal.history members new_members
         → IsAnswered (trading file ledger journal members)
         (trading file ledger journal new_members) (Bounds name v condition) (Refused found)
     decided_answered why found none by is same are =

@@ -141,7 +141,9 @@ module _ {A Plan : Type 0} (file : MarketFile) (ledger : LedgerOf) (journal : Jo
   same_standing : standing_of journal new_members ≡ standing_of journal members
   same_standing = ap (λ (qs : List (Option LastQuote)). record { history = journal.history; quotes = map (option_map quoted) qs }) same_quotes
 
-  pub price_stopped : assets_of new_members ≡ assets_of members → (q : QuestionText) (why : Refusal) → None ≡ first_of (refusals_by_record (market_of file) journal.history (Price q))
+  pub price_stopped : assets_of new_members ≡ assets_of members
+      → (q : QuestionText) (why : Refusal)
+      → None ≡ first_of (refusals_by_record (market_of file) journal.history (Price q))
       → impossible_together file.net journal.history q.condition.items ≡ Some why
       → IsAnswered (trading file ledger journal members)
       (trading file ledger journal new_members) (Price q) (Refused why)
@@ -152,10 +154,14 @@ module _ {A Plan : Type 0} (file : MarketFile) (ledger : LedgerOf) (journal : Jo
     next = same_standing ∙ none_appended (market_of file) (standing_of journal members) (Price q) (Refused why) refl refl;
     paid = λ u. refl;
     one_each = each_owns new_members (users journal.history) named;
-    others = left_alone (trading file ledger journal members) (trading file ledger journal new_members) (Price q) same_assets;
+    others = left_alone (trading file ledger journal members)
+        (trading file ledger journal new_members) (Price q) same_assets;
   }
 
-  pub limits_stopped : (name : List ℕ) (user : ℕ) → IsUser journal.history name user → OwnApart user members new_members → (q : QuestionText) (why : Refusal) → None ≡ first_of (refusals_by_record (market_of file) journal.history (Limits name q))
+  pub limits_stopped : (name : List ℕ) (user : ℕ) → IsUser journal.history name user
+      → OwnApart user members new_members
+      → (q : QuestionText) (why : Refusal)
+      → None ≡ first_of (refusals_by_record (market_of file) journal.history (Limits name q))
       → first_of (refusals_by_states (market_of file) journal.history (Limits name q)) ≡ Some why
       → IsAnswered (trading file ledger journal members)
       (trading file ledger journal new_members) (Limits name q) (Refused why)
@@ -168,7 +174,10 @@ module _ {A Plan : Type 0} (file : MarketFile) (ledger : LedgerOf) (journal : Jo
     others = others_left journal.history name user is_user members new_members apart;
   }
 
-  pub edit_stopped : (name : List ℕ) (user : ℕ) → IsUser journal.history name user → OwnApart user members new_members → (q : QuestionText) (X : ℕ) (seen : Option ℕ) (why : Refusal) → None ≡ first_of (refusals_by_record (market_of file) journal.history (Edit name q X seen))
+  pub edit_stopped : (name : List ℕ) (user : ℕ) → IsUser journal.history name user
+      → OwnApart user members new_members
+      → (q : QuestionText) (X : ℕ) (seen : Option ℕ) (why : Refusal)
+      → None ≡ first_of (refusals_by_record (market_of file) journal.history (Edit name q X seen))
       → first_of (refusals_by_states (market_of file) journal.history (Edit name q X seen)) ≡ Some why
       → IsAnswered (trading file ledger journal members)
       (trading file ledger journal new_members) (Edit name q X seen) (Refused why)

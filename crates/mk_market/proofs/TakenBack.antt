@@ -18,7 +18,8 @@ pub left_by_reply : {Own : Type 0} → (now : Trading Own) (command : Command) (
     → (Agrees now.market now.standing.history command reply → ⊥) → IsLeft now now command reply
 left_by_reply now command reply other = record { same = refl; unfit = λ fit. other fit.agrees }
 
-pub left_by_refusal : {Own : Type 0} → (now : Trading Own) (command : Command) (reply : Reply) (why : Refusal)
+pub left_by_refusal : {Own : Type 0} → (now : Trading Own) (command : Command) (reply : Reply)
+    (why : Refusal)
     → Some why ≡ first_of (refusals_again now.market now.standing.history command)
     → IsLeft now now command reply
 left_by_refusal now command reply why refused = record {
@@ -35,7 +36,8 @@ tried_unfit old new command reply (Err Unfit) told left = left
 tried_unfit old new command reply (Err Memory) told left = absurd (cc)
 
 -- a change is taken back as its command does it, with the reply that its command gives
-pub taken_back : {Own : Type 0} → (old new : Trading Own) (command : Command) (reply given : Reply) → reply ≡ given
+pub taken_back : {Own : Type 0} → (old new : Trading Own) (command : Command)
+    (reply given : Reply) → reply ≡ given
     → new.market ≡ market_after old.market old.standing (OfCommand command) given
     → None ≡ first_of (refusals_again old.market old.standing.history command)
     → Agrees old.market old.standing.history command given

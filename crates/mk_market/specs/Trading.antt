@@ -5,13 +5,15 @@ use Rattle.mk_exact.specs.Market.{Market, present}
 use Rattle.mk_exact.specs.Sound.{IsSound}
 use Rattle.mk_cash.specs.declared.ledger.Account.{Account}
 use Rattle.mk_command.specs.declared.command.Command.{Command}
-use Rattle.mk_command.specs.declared.command.Command.TheVariants.{Deposit, Withdraw, Limits, Edit, Bounds, Spread, Worst, Paid, Position, Add}
+use Rattle.mk_command.specs.declared.command.Command.TheVariants.{Deposit, Withdraw, Limits, Edit}
+use Rattle.mk_command.specs.declared.command.Command.TheVariants.{Bounds, Spread, Worst, Paid}
+use Rattle.mk_command.specs.declared.command.Command.TheVariants.{Position, Add}
 use Rattle.mk_reply.specs.declared.reply.Reply.{Reply}
 use Rattle.mk_rules.specs.Transcript.{Standing, OfCommand, IsAllowedFor, after, market_after}
 use Rattle.mk_market.specs.Points.{ArePaidBy}
 
--- a market as it stands, what its lines and replies have given so far, and of its users, in the order
--- of joining, the accounts and what they own
+-- a market as it stands, what its lines and replies have given so far, and of its users, in the
+-- order of joining, the accounts and what they own
 pub record Trading (Own : Type 0) : Type 0 where
   pub market : Market
   pub standing : Standing
@@ -48,9 +50,9 @@ module _ {Own : Type 0} where
   LeavesOthers old new (Add addition) = ⊤
   LeavesOthers old new command = AreOthersLeft old new command
 
-  -- a command is answered by a reply that is allowed where the history before it is sound; whether it
-  -- is or not, the market and its standing move on by the reply, and so does what users were paid;
-  -- each user owns something, and the command touches what the user owns whom it names
+  -- a command is answered by a reply that is allowed where the history before it is sound; whether
+  -- it is or not, the market and its standing move on by the reply, and so does what users were
+  -- paid; each user owns something, and the command touches what the user owns whom it names
   pub record IsAnswered (old new : Trading Own) (command : Command) (reply : Reply) : Type 0 where
     pub market : new.market ≡ market_after old.market old.standing (OfCommand command) reply
     pub allowed : IsSound old.market.network old.standing.history

@@ -10,8 +10,8 @@ use Rattle.mk_market.specs.Points.{ArePaidBy}
 use Rattle.mk_market.specs.Trading.{Trading}
 
 module _ {Own : Type 0} where
-  -- a change that fits is taken back: its entry is appended, with what it adds, and its payments are
-  -- booked
+  -- a change that fits is taken back: its entry is appended, with what it adds, and its payments
+  -- are booked
   pub record IsTakenBack (old new : Trading Own) (command : Command) (reply : Reply) : Type 0 where
     pub market : new.market ≡ market_after old.market old.standing (OfCommand command) reply
     pub fits : IsFit old.market old.standing.history command reply
@@ -24,7 +24,8 @@ module _ {Own : Type 0} where
     pub unfit : IsFit old.market old.standing.history command reply → ⊥
 
   -- what a change leaves, and why
-  abbrev pub IsTried : Trading Own → Trading Own → Command → Reply → Result Unit RestoreFault → Type 0
+  abbrev pub IsTried : Trading Own → Trading Own → Command → Reply → Result Unit RestoreFault
+      → Type 0
   IsTried old new command reply (Ok done) = IsTakenBack old new command reply
   IsTried old new command reply (Err Unfit) = IsLeft old new command reply
   IsTried old new command reply (Err Memory) = new ≡ old

@@ -20,7 +20,8 @@ use Rattle.mk_market.proofs.market.Market.bounds.Goals as goal
 pub returns-in_err-request : goal.returns-in_err-request
 returns-in_err-request g c =
     let command = BoundsCommand c.args.name.now c.args.variable.now c.args.condition.now in
-    answered_refused _ c.args.self.now _ c.self.view_is (each_owns _ _ c.self.invariant.named) command tt c.in_err-request.field-0.0
+    answered_refused _ c.args.self.now _ c.self.view_is
+    (each_owns _ _ c.self.invariant.named) command tt c.in_err-request.field-0.0
     c.from_residual.result
     c.from_residual.ensures.1 (by_record (market_of c.self.inside.file)
     c.self.inside.journal.history command c.in_err-request.field-0.0

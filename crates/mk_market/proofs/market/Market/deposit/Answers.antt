@@ -11,7 +11,8 @@ use Rattle.mk_market.proofs.market.Market.deposit.Goals as goal
 
 pub returns-in_err-user : goal.returns-in_err-user
 returns-in_err-user g c =
-    answered_refused _ c.args.self.now _ c.self.view_is (each_owns _ _ c.self.invariant.named) (Deposit c.args.name.now c.args.bits) tt c.in_err-user.field-0.0 c.from_residual.result
+    answered_refused _ c.args.self.now _ c.self.view_is
+    (each_owns _ _ c.self.invariant.named) (Deposit c.args.name.now c.args.bits) tt c.in_err-user.field-0.0 c.from_residual.result
     c.from_residual.ensures.1 (c.in_err-user.ensures.deposit (market_of c.self.inside.file) c.self.invariant.max_transfers)
 
 pub deposit-requires : goal.deposit-requires

@@ -24,7 +24,8 @@ use Rattle.mk_market.proofs.market.Market.edit.Goals as goal
 
 pub returns-in_err-request : goal.returns-in_err-request
 returns-in_err-request g c =
-    edit_refused_answered _ c.args.self.now _ c.self.view_is (each_owns _ _ c.self.invariant.named) c.args.name.now c.args.question.now
+    edit_refused_answered _ c.args.self.now _ c.self.view_is
+    (each_owns _ _ c.self.invariant.named) c.args.name.now c.args.question.now
     c.args.to c.args.at c.in_err-request.field-0.0 c.from_residual.result
     c.from_residual.ensures.1 (by_record (market_of c.self.inside.file)
     c.self.inside.journal.history (Edit c.args.name.now c.args.question.now c.args.to c.args.at)

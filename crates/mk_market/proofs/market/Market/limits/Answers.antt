@@ -16,7 +16,8 @@ use Rattle.mk_market.proofs.market.Market.limits.Goals as goal
 pub returns-in_err-request : goal.returns-in_err-request
 returns-in_err-request g c =
     let i = c.self.inside in
-    answered_refused _ c.args.self.now _ c.self.view_is (each_owns _ _ c.self.invariant.named) (Ask c.args.name.now c.args.question.now) tt
+    answered_refused _ c.args.self.now _ c.self.view_is
+    (each_owns _ _ c.self.invariant.named) (Ask c.args.name.now c.args.question.now) tt
     c.in_err-request.field-0.0 c.from_residual.result
     c.from_residual.ensures.1 (by_record (market_of i.file) i.journal.history
     (Ask c.args.name.now c.args.question.now) c.in_err-request.field-0.0

@@ -14,7 +14,8 @@ use Rattle.mk_market.proofs.market.Market.price.Goals as goal
 pub returns-in_err-asked : goal.returns-in_err-asked
 returns-in_err-asked g c =
     let i = c.self.inside in
-    answered_refused _ c.args.self.now _ c.self.view_is (each_owns _ _ c.self.invariant.named) (Price c.args.question.now) tt c.in_err-asked.field-0.0 c.from_residual.result
+    answered_refused _ c.args.self.now _ c.self.view_is
+    (each_owns _ _ c.self.invariant.named) (Price c.args.question.now) tt c.in_err-asked.field-0.0 c.from_residual.result
     c.from_residual.ensures.1 (by_record (market_of i.file) i.journal.history (Price c.args.question.now) c.in_err-asked.field-0.0 c.in_err-asked.ensures.refusal)
 
 pub price_of-requires : goal.price_of-requires

@@ -20,7 +20,8 @@ use Rattle.mk_market.proofs.market.Market.prices.Goals as goal
 pub returns-in_err-asked : goal.returns-in_err-asked
 returns-in_err-asked g c =
     let i = c.self.inside in let command = Prices c.args.variable.now c.args.condition.now in
-    answered_refused _ c.args.self.now _ c.self.view_is (each_owns _ _ c.self.invariant.named) command tt c.in_err-asked.field-0.0
+    answered_refused _ c.args.self.now _ c.self.view_is
+    (each_owns _ _ c.self.invariant.named) command tt c.in_err-asked.field-0.0
     c.from_residual.result c.from_residual.ensures.1
     (by_record (market_of i.file) i.journal.history command c.in_err-asked.field-0.0
     (c.in_err-asked.ensures.refusal c.args.condition.now (sym c.as_slice-words.ensures.value)))

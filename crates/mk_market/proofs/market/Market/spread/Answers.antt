@@ -28,7 +28,8 @@ use Rattle.mk_market.proofs.market.Market.spread.Goals as goal
 pub returns-in_err-request : goal.returns-in_err-request
 returns-in_err-request g c =
     let command = Spread c.args.name.now c.args.variable.now c.args.condition.now c.args.to.now c.args.at in
-    spread_refused_answered _ c.args.self.now _ c.self.view_is (each_owns _ _ c.self.invariant.named) c.args.name.now c.args.variable.now
+    spread_refused_answered _ c.args.self.now _ c.self.view_is
+    (each_owns _ _ c.self.invariant.named) c.args.name.now c.args.variable.now
     c.args.condition.now c.args.to.now c.args.at c.in_err-request.field-0.0
     c.from_residual.result
     c.from_residual.ensures.1

@@ -10,7 +10,8 @@ use Rattle.mk_market.proofs.market.Market.user.Goals as goal
 
 pub returns-in_err-refuse_user : goal.returns-in_err-refuse_user
 returns-in_err-refuse_user g c =
-    answered_refused _ c.args.self.now _ c.self.view_is (each_owns _ _ c.self.invariant.named) (User c.args.name.now) tt c.in_err-refuse_user.field-0.0 c.from_residual.result
+    answered_refused _ c.args.self.now _ c.self.view_is
+    (each_owns _ _ c.self.invariant.named) (User c.args.name.now) tt c.in_err-refuse_user.field-0.0 c.from_residual.result
     c.from_residual.ensures.1 (c.in_err-refuse_user.ensures.refusal (market_of c.self.inside.file) c.self.invariant.max_users)
 
 pub returns-in_default : goal.returns-in_default

@@ -16,7 +16,8 @@ use Rattle.mk_market.proofs.market.Market.withdraw.Goals as goal
 
 pub returns-in_err-user : goal.returns-in_err-user
 returns-in_err-user g c =
-    answered_refused _ c.args.self.now _ c.self.view_is (each_owns _ _ c.self.invariant.named) (Withdraw c.args.name.now c.args.bits) tt c.in_err-user.field-0.0 c.from_residual.result
+    answered_refused _ c.args.self.now _ c.self.view_is
+    (each_owns _ _ c.self.invariant.named) (Withdraw c.args.name.now c.args.bits) tt c.in_err-user.field-0.0 c.from_residual.result
     c.from_residual.ensures.1 (c.in_err-user.ensures.withdrawal (market_of c.self.inside.file) c.self.invariant.max_transfers)
 
 pub assets-assets-requires : goal.assets-assets-requires

@@ -12,7 +12,8 @@ use Rattle.mk_market.proofs.market.Market.worst.Goals as goal
 
 pub returns-in_err-user : goal.returns-in_err-user
 returns-in_err-user g c =
-    answered_refused _ c.args.self.now _ c.self.view_is (each_owns _ _ c.self.invariant.named) (Worst c.args.name.now) tt c.in_err-user.field-0.0 c.from_residual.result
+    answered_refused _ c.args.self.now _ c.self.view_is
+    (each_owns _ _ c.self.invariant.named) (Worst c.args.name.now) tt c.in_err-user.field-0.0 c.from_residual.result
     c.from_residual.ensures.1 (c.in_err-user.ensures.refusal (market_of c.self.inside.file))
 
 pub assets-requires : goal.assets-requires
