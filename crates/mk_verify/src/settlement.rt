@@ -100,8 +100,7 @@ fn judge_payments<P: TreeGraded<SumProd>, A: TreeGraded<MinProd>>(
     payments: &[Payment],
 ) -> Judged
     requires small { TellsSmall small market.old.market (market.old.standing).history }
-    requires outcome { HasOutcome market.old.market.network
-        (market.old.standing).history }
+    requires outcome { HasOutcome market.old.market.network (market.old.standing).history }
     requires in_order { map (λ p. p.user) payments.now ≡ users (market.old.standing).history }
     requires fits { All IsReadPayment payments.now }
     requires few { length payments.now < 2 ^ 32 }
@@ -129,8 +128,7 @@ fn judge_payment<P: TreeGraded<SumProd>, A: TreeGraded<MinProd>>(
     payment: &Payment,
 ) -> Judged
     requires small { TellsSmall small market.old.market (market.old.standing).history }
-    requires outcome { HasOutcome market.old.market.network
-        (market.old.standing).history }
+    requires outcome { HasOutcome market.old.market.network (market.old.standing).history }
     requires user { user < length (users (market.old.standing).history) }
     requires fits { IsReadPayment payment.now }
     ensures same { IsOnlyAsked market.old market.new }

@@ -20,6 +20,3 @@ mod trees;
 mod walks;
 #[cfg(test)]
 mod weather;
-
-/// Nothing: this program is its tests.
-fn main() {}
