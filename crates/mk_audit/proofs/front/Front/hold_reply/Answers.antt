@@ -1,5 +1,5 @@
 use Rattle.mk_command.specs.Commands.{command_of}
-use Rattle.mk_audit.proofs.Found.{stands_by, at_by, still_at}
+use Rattle.mk_audit.proofs.Found.{stands_by, at_by}
 use Rattle.mk_audit.proofs.front.Front.hold_reply.Goals as goal
 
 pub returns-in-Allowed-clause-known : goal.returns-in-Allowed-clause-known
