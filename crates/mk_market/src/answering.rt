@@ -13,7 +13,8 @@ impl<P: Engine<SumProd>, A: Engine<MinProd>> Market<P, A> {
     ghost use Rattle.mk_market.specs.Trading.{IsAnswered};
 
     /// Answers a command. Only a user who joins, and a question that is added, take memory, all of
-    /// it before anything changes. Both engines have to suit the market with that question.
+    /// it before anything changes. Both engines have to suit the market with that question. Every
+    /// other command leaves the assets of each user whom it does not name.
     #[inline(never)]
     #[tactic(auto, unfolding(mk_command::specs::Commands::command_of))]
     pub fn apply(&mut self, alloc: Global, command: &CommandRef) -> Reply

@@ -96,8 +96,7 @@ impl<P: Engine<SumProd>, A: Engine<MinProd>> Market<P, A> {
     }
 }
 
-ghost use Rattle.std.specs.Prelude.{◌≡◌, ◌<◌, ◌≤◌, ℕ, List, [], ◌∷◌, ◌++◌, length, map, false};
-ghost use Rattle.std.specs.Prelude.{All};
+ghost use Rattle.std.specs.Prelude.{◌≡◌, ◌<◌, ◌≤◌, ℕ, [], length, map, All};
 ghost use Rattle.mk_net.specs.Bounds.{max_users, max_payments, number_limit};
 ghost use Rattle.mk_exact.specs.History.{users as users_of};
 ghost use Rattle.mk_exact.specs.ByRule.{payments_by_rule};
