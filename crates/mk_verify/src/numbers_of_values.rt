@@ -1,4 +1,5 @@
 //! Judgements of replies that tell a number of each value of a variable.
+ghost use Rattle.std.specs.Prelude.{◌≡◌};
 ghost use Rattle.mk_command.specs.declared.command.Command.TheVariants as command;
 ghost use Rattle.mk_reply.specs.Replies.{IsReply};
 ghost use Rattle.mk_market.specs.Trading.{IsOnlyAsked};
