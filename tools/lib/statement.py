@@ -23,7 +23,7 @@ SECTIONS = [
     ("The audit of a transcript", [
         "mk_audit/specs/AuditOutcome.antt", "mk_audit/src/verdict.rt", "mk_audit/specs/Verdicts.antt", "mk_verify/specs/Clear.antt",
         "mk_evidence/specs/Grades.antt",
-        "mk_judge/specs/Compared.antt", "mk_judge/specs/Prices.antt", "mk_judge/specs/Cash.antt", "mk_judge/specs/Losses.antt",
+        "mk_judge/specs/Compared.antt", "mk_judge/specs/Prices.antt", "mk_judge_points/specs/Cash.antt", "mk_judge_points/specs/Losses.antt",
         "mk_judge/specs/Limits.antt", "mk_scaled/specs/Near.antt"]),
     ("The transcript", [
         "mk_session/specs/Transcript.antt", "mk_session/specs/Passed.antt", "mk_rules/specs/Transcript.antt", "mk_rules/specs/Standings.antt",

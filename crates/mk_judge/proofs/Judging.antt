@@ -1,8 +1,7 @@
 -- Judgements of single comparisons, and of several together.
-use Rattle.std.proofs.Common.{◌≡◌, ℕ, ◌*◌, ◌^◌, ◌<◌, ◌≤◌, ◌⊎◌, refl, inl, inr, arith}
+use Rattle.std.proofs.Common.{◌≡◌, ℕ, ◌<◌, ◌≤◌, ◌⊎◌, refl, inl, inr, arith}
 use Rattle.std.proofs.Common.{Bool, true, false, Decides}
 use Rattle.std.proofs.lemmas.Bool.{false≢true}
-use Rattle.std.proofs.Math.Nat.{pow-zero}
 use Rattle.mk_judge.specs.declared.comparing.Compared.{Compared}
 use Rattle.mk_judge.specs.declared.comparing.Compared.TheVariants.{AtMost, Above, Unsure}
 use Rattle.mk_judge.specs.declared.judged.Judged.{Judged}
@@ -55,21 +54,6 @@ pub says_as : (c : Compared) (a b a' b' : ℕ) (M N : Type 0) → a ≡ a' → b
 says_as AtMost a b a' b' M N same same' known says = omega (arith, same, same', says)
 says_as Above a b a' b' M N same same' known says = omega (arith, same, same', says)
 says_as Unsure a b a' b' M N same same' known says = known says
-
--- a comparison of bits with nothing beside the factor
-pub covered_says : (c : Compared) (bits w z : ℕ) (M N : Type 0) → (M → N) → Says c (1 * 2 ^ bits * w) (z * 2 ^ 0) M → Judges (where_at_most c) (2 ^ bits * w ≤ z) N
-covered_says c bits w z M N known says = judges_at_most c (2 ^ bits * w) z N (says_as c (1 * 2 ^ bits * w) (z * 2 ^ 0) (2 ^ bits * w) z M N (omega arith) (let n : 2 ^ 0 ≡ 1 = pow-zero 2 in rw n (omega arith)) known says)
-
-pub past_says : (c : Compared) (bits w z : ℕ) (M N : Type 0) → (M → N) → Says c (1 * 2 ^ bits * w) (z * 2 ^ 0) M → Judges (where_above c) (z < 2 ^ bits * w) N
-past_says c bits w z M N known says = judges_above c (2 ^ bits * w) z N (says_as c (1 * 2 ^ bits * w) (z * 2 ^ 0) (2 ^ bits * w) z M N (omega arith) (let n : 2 ^ 0 ≡ 1 = pow-zero 2 in rw n (omega arith)) known says)
-
--- of one statement that is known to be one of two
-pub judges_pair : (j k : Judged) (P Q N : Type 0) → Judges j P N → Judges k Q N → Judges (both j k) (P × Q) N
-judges_pair j k P Q N p q = judges_as (both j k) (P × Q) (P × Q) (N ⊎ N) N (λ x. x) (λ x. x) either (judges_both j k P Q N N p q)
-  where
-    either : N ⊎ N → N
-    either (inl n) = n
-    either (inr n) = n
 
 -- by the three clauses of a judge
 pub judges_of : (j : Judged) (P N : Type 0) → (j ≡ Allowed → P) → (j ≡ Wrong → P → ⊥)

@@ -2,9 +2,7 @@ pub mod Quotients
 pub mod Nearness
 pub mod Judging
 pub mod Pricing
-pub mod Lifting
-pub mod Cashing
-pub mod Losing
+pub mod Beside
 pub mod Solving
 pub mod Fairness
 pub mod Trading

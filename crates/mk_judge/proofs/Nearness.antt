@@ -1,6 +1,6 @@
 -- Two numbers whose enclosures overlap are near.
 use Rattle.std.proofs.Common.{◌≡◌, ℕ, ◌+◌, ◌*◌, ◌^◌, ◌<◌, ◌≤◌, arith, le_refl}
-use Rattle.std.proofs.Math.Nat.{mul-le-mul_left, mul-le-mul_right, mul_comm}
+use Rattle.std.proofs.Math.Nat.{mul-le-mul_left, mul-le-mul_right, mul_comm, le_of_mul-le-mul_right}
 use Rattle.mk_scaled.specs.Near.{IsNear, near_trans, near_between, near_more}
 use Rattle.mk_judge.specs.Compared.{AreNear}
 
@@ -27,6 +27,15 @@ times_near k lo hi g near = record {
 
 pub near_times : (k lo hi g : ℕ) → IsNear lo hi g → IsNear (k * lo) (k * hi) g
 near_times k lo hi g near = rw (mul_comm k lo, mul_comm k hi) (times_near k lo hi g near)
+
+-- what is near stays so where a common factor is taken away
+pub near_cancel : (a b k n : ℕ) → 1 ≤ k → IsNear (a * k) (b * k) n → IsNear a b n
+near_cancel a b k n some h = record {
+  near = le_of_mul-le-mul_right {k = k} (let l = h.near in omega (arith, l)) some;
+}
+
+pub near_cancelled : (x y p q w k n : ℕ) → 1 ≤ k → p * k ≡ x * w → q * k ≡ y * w → IsNear x y n → IsNear p q n
+near_cancelled x y p q w k n some p_is q_is h = near_cancel p q k n some (rw (p_is, q_is) (times_near w x y n h))
 
 -- by more steps
 pub more_steps : (a b i j : ℕ) → i ≤ j → AreNear a b i → AreNear a b j
@@ -67,9 +76,3 @@ not_either units over k lo hi lo' hi' same same' past within =
 -- the same numbers, written otherwise
 pub near_same_as : (a b steps a' b' steps' : ℕ) → a ≡ a' → b ≡ b' → steps ≡ steps' → AreNear a b steps → AreNear a' b' steps'
 near_same_as a b steps a' b' steps' same same' equal near = rw (← same, ← same', ← equal) near
-
-pub ends_agree : (x y lo hi lo' hi' : ℕ) → lo ≡ hi → lo' ≡ hi' → lo' * y < hi * x → lo * x ≤ hi' * y → ⊥
-ends_agree x y lo hi lo' hi' same same' past within =
-    let a : lo' * y < lo * x = rw same past in
-    let b : lo * x ≤ lo' * y = rw same' within in
-    omega (arith, a, b)

@@ -52,8 +52,7 @@ use Rattle.mk_judge.specs.declared.scale.Scale.{Scale}
 use Rattle.mk_judge.specs.Compared.{AreNear}
 use Rattle.mk_judge.specs.Powers.{StandsBeside}
 use Rattle.mk_judge.specs.inner.Products.{IsAboveOne}
-use Rattle.mk_judge.proofs.Nearness.{overlap, near_times, times_near}
-use Rattle.mk_judge.proofs.Lifting.{near_cancelled}
+use Rattle.mk_judge.proofs.Nearness.{overlap, near_times, times_near, near_cancelled}
 use Rattle.mk_judge.proofs.Fairness.{turned}
 
 -- ---- capped powers of two decide as the powers themselves do

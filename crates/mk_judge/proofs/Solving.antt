@@ -17,9 +17,8 @@ use Rattle.mk_judge.specs.Compared.{AreNear}
 use Rattle.mk_judge.specs.Powers.{StandsBeside}
 use Rattle.mk_judge.specs.Cash.{IsHeld}
 use Rattle.mk_judge.specs.inner.Solvency.{AreEnough, AreLeast, AreTooMany}
-use Rattle.mk_judge.proofs.Nearness.{overlap, near_times, times_near}
-use Rattle.mk_judge.proofs.Lifting.{near_cancelled}
-use Rattle.mk_judge.proofs.Cashing.{one_beside}
+use Rattle.mk_judge.proofs.Nearness.{overlap, near_times, times_near, near_cancelled}
+use Rattle.mk_judge.proofs.Beside.{one_beside}
 
 -- ---- the least units
 

@@ -3,7 +3,6 @@ pub mod Compared
 pub mod Prices
 pub mod Powers
 pub mod Cash
-pub mod Losses
 pub mod Units
 pub mod Limits
 pub mod Wanted

@@ -1,5 +1,4 @@
 -- What only proofs and private contracts cite.
-pub mod Ends
 pub mod Solvency
 pub mod Products
 pub mod Within

@@ -15,7 +15,7 @@ pub enum Judged {
 
 impl Judged {
     /// Where the one number has to be at most the other.
-    pub(crate) fn at_most(compared: Compared) -> Judged
+    pub fn at_most(compared: Compared) -> Judged
         ensures { result ≡ where_at_most compared }
     {
         match compared {
@@ -26,7 +26,7 @@ impl Judged {
     }
 
     /// Where the one number has to be above the other.
-    pub(crate) fn above(compared: Compared) -> Judged
+    pub fn above(compared: Compared) -> Judged
         ensures { result ≡ where_above compared }
     {
         match compared {

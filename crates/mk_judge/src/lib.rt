@@ -2,8 +2,6 @@
 //! know no market and no engine.
 #![tactic(auto)]
 
-mod bits;
-mod cash;
 mod comparing;
 mod distribution;
 mod exact;
@@ -12,11 +10,9 @@ mod interval;
 mod judged;
 mod least;
 mod limits;
-mod loss;
 mod multiply;
 mod near;
 mod places;
-mod power;
 mod price;
 mod product;
 mod question;
@@ -27,8 +23,6 @@ mod units;
 mod wanted;
 mod wanting;
 
-pub use bits::{judge_covered, judge_most};
-pub use cash::judge_cash;
 pub use comparing::{Compared, compare};
 pub use distribution::{judge_intervals, judge_spread_units};
 pub use exact::judge_exact_limits;
@@ -36,7 +30,8 @@ pub use inside::judge_wanted;
 pub use interval::{judge_interval, judge_no_share};
 pub use judged::Judged;
 pub use limits::judge_tradable;
-pub use loss::judge_bound;
+pub use near::near_bits;
 pub use price::{PriceBounds, judge_price};
 pub use question::judge_limits;
+pub use scale::Scale;
 pub use units::judge_units;

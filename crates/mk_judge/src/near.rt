@@ -18,7 +18,7 @@ pub fn near_part(most_trades: u32) -> u64
     }
 }
 
-/// The same as a power of two.
+/// Printed cash and bits are near by one part in two to this, where there may be so many trades.
 pub fn near_bits(most_trades: u32) -> u32
     ensures value { 2 ^ result ≡ sharpness most_trades }
     ensures some { 1 ≤ result }

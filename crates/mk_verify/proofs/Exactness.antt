@@ -18,7 +18,8 @@ use Rattle.mk_judge.specs.declared.judged.Judged.TheVariants.{Allowed, Wrong, Un
 use Rattle.mk_judge.specs.declared.price.PriceBounds.{PriceBounds}
 use Rattle.mk_judge.specs.Judged.{Judges}
 use Rattle.mk_judge.specs.Prices.{ArePriceBounds, IsPriceNear}
-use Rattle.mk_judge.specs.Cash.{IsOwned, IsCashNear, IsBitsNear, AreBitsNear, ArePowersNear, nearness}
+use Rattle.mk_judge.specs.Cash.{IsOwned}
+use Rattle.mk_judge_points.specs.Cash.{IsCashNear, IsBitsNear, AreBitsNear, ArePowersNear, nearness}
 use Rattle.mk_answers.specs.Evidence.{AreBoundsOfPrice, IsFactorOf}
 use Rattle.mk_evidence.specs.Grades.{evidence_grade}
 use Rattle.mk_verify.specs.Clear.{IsPriceOpen, IsCashOpen, AreBitsOpen, IsMostOpen, near_steps}

@@ -15,8 +15,8 @@ use Rattle.mk_judge.specs.declared.price.PriceBounds.{PriceBounds}
 use Rattle.mk_judge.specs.declared.price.PriceBounds.TheVariants.{Never, Always, Between}
 use Rattle.mk_judge.specs.Compared.{AreNear}
 use Rattle.mk_judge.specs.Prices.{AreNearUnits, IsPriceNear}
-use Rattle.mk_judge.specs.Cash.{ArePowersNear, IsCashNear, IsBitsNear, AreBitsNear, nearness as cash_nearness}
-use Rattle.mk_judge.specs.Losses.{quotient, IsBoundNear}
+use Rattle.mk_judge_points.specs.Cash.{ArePowersNear, IsCashNear, IsBitsNear, AreBitsNear, nearness as cash_nearness}
+use Rattle.mk_judge_points.specs.Losses.{quotient, IsBoundNear}
 use Rattle.mk_answers.specs.Evidence.{ArePriceGraded}
 use Rattle.mk_evidence.specs.Grades.{evidence_grade}
 

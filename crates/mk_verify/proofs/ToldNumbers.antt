@@ -26,8 +26,8 @@ use Rattle.mk_judge.specs.declared.judged.Judged.{Judged}
 use Rattle.mk_judge.specs.declared.judged.Judged.TheVariants.{Allowed, Wrong, Unclear}
 use Rattle.mk_judge.specs.declared.price.PriceBounds.{PriceBounds}
 use Rattle.mk_judge.specs.Judged.{Judges}
-use Rattle.mk_judge.specs.Cash.{ArePowersNear}
-use Rattle.mk_judge.specs.Losses.{quotient, IsBoundNear}
+use Rattle.mk_judge_points.specs.Cash.{ArePowersNear}
+use Rattle.mk_judge_points.specs.Losses.{quotient, IsBoundNear}
 use Rattle.mk_judge.proofs.Judging.{judges_as}
 use Rattle.mk_answers.specs.Evidence.{AreBoundsOfPrice, IsLeastFactorOf, IsLeastWeight}
 use Rattle.mk_evidence.specs.Grades.{evidence_grade, all_cells}

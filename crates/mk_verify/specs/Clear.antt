@@ -36,8 +36,8 @@ use Rattle.mk_reply.specs.Refusals.{given_in}
 use Rattle.mk_rules.specs.Refusals.{question_named, spread_named, user_number}
 use Rattle.mk_rules.specs.Quotes.{Interval, Quotes, last_quote, current_limits, current_bounds}
 use Rattle.mk_judge.specs.Compared.{AreNear}
-use Rattle.mk_judge.specs.Cash.{ArePowersNear}
-use Rattle.mk_judge.specs.Losses.{quotient}
+use Rattle.mk_judge_points.specs.Cash.{ArePowersNear}
+use Rattle.mk_judge_points.specs.Losses.{quotient}
 use Rattle.mk_judge.specs.Prices.{AreNearUnits}
 use Rattle.mk_judge.specs.Limits.{IsLeastSolvent}
 use Rattle.mk_evidence.specs.Grades.{evidence_grade}

@@ -21,7 +21,8 @@ ghost use Rattle.mk_verify.specs.Clear.{IsPriceOpen, IsPlaceOpen, IsLeastCashOpe
 ghost use Rattle.mk_verify.specs.inner.Judging.{TellsSmall, AreBoundsOfPrices, AreSureFactorsOf};
 
 use mk_enclose::Factor;
-use mk_judge::{Judged, PriceBounds, judge_cash, judge_price};
+use mk_judge::{Judged, PriceBounds, judge_price};
+use mk_judge_points::judge_cash;
 
 /// Judges the prices that are printed for the values of a variable, in order, in a market of at
 /// most so many trades.

@@ -1,0 +1,4 @@
+pub mod Covered
+pub mod Lifting
+pub mod Cashing
+pub mod Losing

@@ -1,0 +1,3 @@
+pub mod Cash
+pub mod Losses
+pub mod inner
