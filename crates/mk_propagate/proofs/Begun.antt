@@ -7,9 +7,9 @@ use Rattle.mk_scope.specs.Scopes.{ScopeOf}
 use Rattle.mk_table.specs.Tables.{TableOf}
 use Rattle.mk_table.specs.Lists.{IsOnes}
 use Rattle.mk_tree.specs.Given.{AreLinked}
-use Rattle.mk_propagate.specs.Shapes.{ShapeOf, no_scope, clique_scope, core_scope, separator_scope}
+use Rattle.mk_plan.specs.Shapes.{ShapeOf, no_scope, clique_scope, core_scope, separator_scope}
+use Rattle.mk_plan.specs.Shapes.{scopes_of, HasEach}
 use Rattle.mk_propagate.specs.Flows.{no_table}
-use Rattle.mk_propagate.specs.inner.Shaped.{scopes_of, HasEach}
 use Rattle.mk_propagate.specs.inner.Boards.{part, board_of, IsBoard}
 use Rattle.mk_propagate.specs.inner.Ones.{AreOnes, IsStart}
 use Rattle.mk_propagate.proofs.Boards.{part_get, part_length}

@@ -29,14 +29,14 @@ use Rattle.mk_tree.specs.Given.{GivenTree, clique_at, holds, link_of, holds_even
 use Rattle.mk_engine.specs.Meaning.{Factor, exact_belief, whole_sum}
 use Rattle.mk_engine.specs.Apart.{HasCondition, IsApart, without_ratios}
 use Rattle.mk_engine.proofs.Apart.{ratio_count, apart_at_most}
-use Rattle.mk_propagate.specs.Shapes.{ShapeOf, IsClique, clique_scope, core_scope, clique_cells, scope_within, in_core, neighbours}
+use Rattle.mk_plan.specs.Shapes.{ShapeOf, IsClique, clique_scope, core_scope, clique_cells, scope_within, in_core, neighbours}
 use Rattle.mk_propagate.specs.Placings.{Placing, PlacedFactor, IsCommon, placed_there, factors_in, ratios_in, meaning_of}
 use Rattle.mk_propagate.specs.Flows.{FlowOf, HasCells, HasSums, HasPlaced, core_there, core_steps, AreRightInto, IsRight, IsReading, exact_message, all_cells, reading_grade, table_at}
 use Rattle.mk_propagate.specs.inner.Kept.{IsKept}
 use Rattle.mk_propagate.specs.inner.Gathered.{is_input, gathered, gathered_steps, gathered_ratios, HasGathered, HasInto}
 use Rattle.mk_propagate.specs.inner.Totals.{HaveTotal}
-use Rattle.mk_propagate.proofs.Scopes.{has_within, clique_counted}
-use Rattle.mk_propagate.proofs.Cores.{core_part}
+use Rattle.mk_plan.proofs.Scopes.{has_within, clique_counted}
+use Rattle.mk_plan.proofs.Cores.{core_part}
 use Rattle.mk_propagate.proofs.Margins.{apart, parted, total_over, values_of_part}
 use Rattle.mk_propagate.proofs.Inputs.{times_inputs, times_same}
 use Rattle.mk_propagate.proofs.Ratios.{ratios_counted, ratios_read, none_gathered}
@@ -44,7 +44,7 @@ use Rattle.mk_propagate.proofs.Grading.{few_grades, reading_steps, most_parts}
 use Rattle.mk_propagate.proofs.Readings.{pairs_read, read_there, belief_is_read, belief_at_most}
 use Rattle.mk_propagate.proofs.Messages.{message_within, shared_in_core, core_cells, core_room, few_core_steps, table_room, whole_room}
 use Rattle.mk_propagate.proofs.Placed.{sum_same}
-use Rattle.mk_propagate.proofs.Required.{all_pass}
+use Rattle.mk_plan.proofs.Required.{all_pass}
 use Rattle.mk_propagate.proofs.Sending.{can_take}
 use Rattle.mk_propagate.proofs.Marks.{all_linked}
 

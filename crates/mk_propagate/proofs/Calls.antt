@@ -17,7 +17,7 @@ use Rattle.mk_tree.specs.Given.{holds}
 use Rattle.mk_engine.specs.Meaning.{Factor, RowsOf, RatioOf, is_ratio, max_factors, factor_there}
 use Rattle.mk_propagate.specs.declared.gathered.Gathered.{Gathered}
 use Rattle.mk_propagate.specs.declared.gathered.Gathered.TheVariants.{Nothing}
-use Rattle.mk_propagate.specs.Shapes.{ShapeOf, IsShapeFor, IsClique, clique_scope, scope_within, no_scope}
+use Rattle.mk_plan.specs.Shapes.{ShapeOf, IsShapeFor, IsClique, clique_scope, scope_within, no_scope}
 use Rattle.mk_propagate.specs.Placings.{Placing, with_factor_in, with_pair_in, placed_there, factors_in, ratios_in, IsPlacedFactor, IsPlacedPair, IsCommon}
 use Rattle.mk_propagate.specs.Flows.{FlowOf, table_at, no_table, HasCells, HasSums, HasPlaced, KeepsMessages, Places}
 use Rattle.mk_propagate.specs.inner.Gathered.{IsFollowed, IsPlacedIn}
@@ -29,7 +29,7 @@ use Rattle.mk_propagate.proofs.Placed.{AreOthersKept, with_table, table_read, fa
 use Rattle.mk_propagate.proofs.Messages.{core_room_one, table_room}
 use Rattle.mk_propagate.proofs.Sending.{core_is, core_put, cores_still, mark_is, mark_put, mark_within, others_set, read_back}
 use Rattle.mk_propagate.proofs.Placed as placed
-use Rattle.mk_propagate.proofs.Required as required
+use Rattle.mk_plan.proofs.Required as required
 
 -- a flow over a board
 abbrev pub flow_over : ShapeOf → List Bool → ℕ → ℕ → BoardOf → FlowOf

@@ -27,13 +27,13 @@ use Rattle.mk_table.proofs.Owned.{own_shifted, plus_scaled}
 use Rattle.mk_table.proofs.RatiosKept.{one_ratio_more}
 use Rattle.mk_tree.specs.Given.{holds}
 use Rattle.mk_engine.specs.Meaning.{RatioOf}
-use Rattle.mk_propagate.specs.Shapes.{ShapeOf, IsShapeFor, IsClique, core_scope, scope_within, in_core}
+use Rattle.mk_plan.specs.Shapes.{ShapeOf, IsShapeFor, IsClique, core_scope, scope_within, in_core}
 use Rattle.mk_propagate.specs.Placings.{Placing, IsPlacedFactor, IsCommon, placed_there, factors_in, ratios_in, with_factor_in}
 use Rattle.mk_propagate.specs.Flows.{HasSums, core_there, core_steps}
 use Rattle.mk_propagate.specs.inner.Gathered.{IsPlacedIn, IsFollowed}
-use Rattle.mk_propagate.proofs.Scopes.{has_within, size_within}
-use Rattle.mk_propagate.proofs.Cores.{core_part}
-use Rattle.mk_propagate.proofs.Required.{all_pass}
+use Rattle.mk_plan.proofs.Scopes.{has_within, size_within}
+use Rattle.mk_plan.proofs.Cores.{core_part}
+use Rattle.mk_plan.proofs.Required.{all_pass}
 use Rattle.mk_propagate.proofs.Readings.{ratio_reads}
 use Rattle.mk_propagate.proofs.Placed.{factor_here, counted_here}
 use Rattle.mk_propagate.proofs.Ratios.{ratio_here, common_before, common_to_it}

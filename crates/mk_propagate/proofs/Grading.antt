@@ -11,11 +11,11 @@ use Rattle.mk_sums.proofs.Grades.{grades_add, read_grades_add}
 use Rattle.mk_tree.specs.Given.{GivenTree, clique_at, link_of, max_tree_cliques}
 use Rattle.mk_tree.specs.Tests.{cells_of}
 use Rattle.mk_engine.specs.Meaning.{max_factors}
-use Rattle.mk_propagate.specs.Shapes.{ShapeOf, IsShapeFor, IsClique, clique_cells, neighbours}
+use Rattle.mk_plan.specs.Shapes.{ShapeOf, IsShapeFor, IsClique, clique_cells, neighbours}
 use Rattle.mk_propagate.specs.Placings.{Placing, PlacedFactor, IsPlacing, factors_in}
 use Rattle.mk_propagate.specs.Flows.{exact_message_grade, all_cells, reading_grade}
 use Rattle.mk_propagate.specs.inner.Gathered.{is_taken, is_input, gathered_steps, gathered_factors}
-use Rattle.mk_propagate.proofs.Scopes.{clique_counted}
+use Rattle.mk_plan.proofs.Scopes.{clique_counted}
 use Rattle.mk_propagate.proofs.Placed.{sum_same}
 use Rattle.mk_propagate.proofs.Inputs.{sum_inputs, others_counted}
 

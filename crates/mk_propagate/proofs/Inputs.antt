@@ -12,7 +12,7 @@ use Rattle.mk_sums.specs.Trees.{times_of, sum_of, linked_to}
 use Rattle.mk_sums.proofs.Sets.{times_agree, times_union, times_one}
 use Rattle.mk_scope.proofs.Members.{range_more}
 use Rattle.mk_tree.specs.Given.{GivenTree, link_of}
-use Rattle.mk_propagate.specs.Shapes.{neighbours}
+use Rattle.mk_plan.specs.Shapes.{neighbours}
 use Rattle.mk_propagate.specs.inner.Gathered.{is_taken, is_input}
 
 range_last : (k : ℕ) → range_with_len 1 (suc k) ≡ range_with_len 1 k ++ suc k ∷ []

@@ -1,13 +1,6 @@
 pub mod Boards
 pub mod Begun
-pub mod Scopes
-pub mod Cores
-pub mod Split
-pub mod Starts
-pub mod Shaped
-pub mod Laid
 pub mod Placed
-pub mod Required
 pub mod Calls
 pub mod Order
 pub mod Passed

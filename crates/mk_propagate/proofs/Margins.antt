@@ -19,8 +19,8 @@ use Rattle.mk_scope.specs.Cells.{values_at, cell_in, cells_onto, cells_where}
 use Rattle.mk_scope.proofs.Members.{keep_rising, rising_apart}
 use Rattle.mk_scope.proofs.Values.{cells_same}
 use Rattle.mk_scope.proofs.Kept.{value_in}
-use Rattle.mk_propagate.specs.Shapes.{scope_within}
-use Rattle.mk_propagate.proofs.Scopes.{within_set, size_within, cells_within, values_within, part_lies_in}
+use Rattle.mk_plan.specs.Shapes.{scope_within}
+use Rattle.mk_plan.proofs.Scopes.{within_set, size_within, cells_within, values_within, part_lies_in}
 
 -- two sizes that agree on the variables count the same cell
 cell_same : (f g : ℕ → ℕ) (xs : List ℕ) → ((x : ℕ) → listed xs x ≡ true → f x ≡ g x) → (a : ℕ → ℕ) → cell_of f xs a ≡ cell_of g xs a

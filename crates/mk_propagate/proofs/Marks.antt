@@ -7,7 +7,7 @@ use Rattle.mk_table.specs.Tables.{TableOf}
 use Rattle.mk_tree.specs.Given.{GivenTree, link_of}
 use Rattle.mk_propagate.specs.declared.gathered.Gathered.{Gathered}
 use Rattle.mk_propagate.specs.declared.gathered.Gathered.TheVariants.{Nothing, Everything, AllBut}
-use Rattle.mk_propagate.specs.Shapes.{ShapeOf, IsClique, are_linked as is_linked}
+use Rattle.mk_plan.specs.Shapes.{ShapeOf, IsClique, are_linked as is_linked}
 use Rattle.mk_propagate.specs.Placings.{Placing}
 use Rattle.mk_propagate.specs.Flows.{FlowOf, HasPlaced, HasSums, KeepsTables, AreRightBut, is_summed, no_table}
 use Rattle.mk_propagate.specs.inner.Gathered.{is_taken, is_input, message_in, IsPlacedIn, IsRightIn, HasInto, HasMarked, leaves_out, still_marked}

@@ -31,12 +31,12 @@ use Rattle.mk_table.specs.Tables.{TableOf, HasNumbers, HasRoom}
 use Rattle.mk_table.specs.Ratios.{keeps, KeepsPairs, HasRatios}
 use Rattle.mk_tree.proofs.Cells.{cells_positive}
 use Rattle.mk_tree.specs.Given.{GivenTree, clique_at, holds, link_of}
-use Rattle.mk_propagate.specs.Shapes.{ShapeOf, IsShapeFor, IsClique, clique_scope, core_scope, separator_scope, separator_between, scope_within, in_core, neighbours, clique_cells}
+use Rattle.mk_plan.specs.Shapes.{ShapeOf, IsShapeFor, IsClique, clique_scope, core_scope, separator_scope, separator_between, scope_within, in_core, neighbours, clique_cells}
 use Rattle.mk_propagate.specs.Placings.{Placing, IsPlacing, IsCommon, placed_there, factors_in, ratios_in}
 use Rattle.mk_propagate.specs.Flows.{HasCells, core_there, core_steps, private_cells, exact_message, exact_message_grade, message_ratios}
 use Rattle.mk_propagate.specs.inner.Gathered.{is_taken, is_input, IsRightIn, HasOutgoing, gathered, gathered_steps, gathered_factors, gathered_ratios, HasGathered, IsMargin, IsMarginOfProduct, IsMessageAlone}
-use Rattle.mk_propagate.proofs.Scopes.{has_within, within_network, within_set, variable_of_network, part_has_fewer, clique_counted, clique_small}
-use Rattle.mk_propagate.proofs.Cores.{core_has, core_part, neighbour_linked}
+use Rattle.mk_plan.proofs.Scopes.{has_within, within_network, within_set, variable_of_network, part_has_fewer, clique_counted, clique_small}
+use Rattle.mk_plan.proofs.Cores.{core_has, core_part, neighbour_linked}
 use Rattle.mk_scope.proofs.Chosen.{chosen_pass}
 use Rattle.mk_scope.proofs.Members.{keep_rising, rising_apart}
 use Rattle.mk_table.proofs.Owned.{own_more, plus_scaled}

@@ -6,8 +6,8 @@ use Rattle.mk_sums.proofs.Hops.{AreLinked, are_linked, linked_from, linked_back,
 use Rattle.mk_sums.proofs.Stale.{leads_towards, collects_in_order}
 use Rattle.mk_tree.specs.Given.{GivenTree, link_of}
 use Rattle.mk_tree.specs.Given as given
-use Rattle.mk_propagate.specs.Shapes.{IsClique, next_on_way}
-use Rattle.mk_propagate.specs.Shapes as shapes
+use Rattle.mk_plan.specs.Shapes.{IsClique, next_on_way}
+use Rattle.mk_plan.specs.Shapes as shapes
 use Rattle.mk_propagate.specs.inner.Passes.{leads_up, leads_down, count_of}
 
 -- of two linked cliques the earlier is the later's link

@@ -4,7 +4,7 @@ use Rattle.std.proofs.lemmas.Bool.{cases_eq}
 use Rattle.mk_sums.specs.Trees.{linked_but}
 use Rattle.mk_tree.specs.Given.{GivenTree, link_of}
 use Rattle.mk_tree.specs.Given as given
-use Rattle.mk_propagate.specs.Shapes.{ShapeOf, IsClique, are_linked, next_on_way}
+use Rattle.mk_plan.specs.Shapes.{ShapeOf, IsClique, are_linked, next_on_way}
 use Rattle.mk_propagate.specs.Placings.{Placing}
 use Rattle.mk_propagate.specs.Flows.{FlowOf, message_at, HasPlaced, IsRight, AreRightBut, CanSend, KeepsTables, counted_on}
 use Rattle.mk_propagate.proofs.Placed.{right_kept}

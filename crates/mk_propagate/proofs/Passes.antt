@@ -3,7 +3,7 @@ use Rattle.std.proofs.Common.{◌≡◌, ◌≢◌, ℕ, ◌+◌, ◌-◌, ◌<�
 use Rattle.std.proofs.lemmas.Bool.{cases_eq, both_ways}
 use Rattle.mk_tree.specs.Given.{GivenTree}
 use Rattle.mk_tree.specs.Given as given
-use Rattle.mk_propagate.specs.Shapes.{ShapeOf, IsClique, next_on_way, are_linked}
+use Rattle.mk_plan.specs.Shapes.{ShapeOf, IsClique, next_on_way, are_linked}
 use Rattle.mk_propagate.specs.Placings.{Placing}
 use Rattle.mk_propagate.specs.Flows.{FlowOf, HasPlaced, IsRight, KeepsTables, counted_on, AreRightTowards, AreAllRight, CanSend, separators_of}
 use Rattle.mk_propagate.specs.inner.Passes.{leads_up, leads_down, count_of, AreRightFrom, AreRightTo}

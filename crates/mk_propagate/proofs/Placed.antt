@@ -21,7 +21,7 @@ use Rattle.mk_table.specs.Ratios.{KeepsPairs, HasRatios}
 use Rattle.mk_table.proofs.RatiosKept.{no_ratios, same_ratios, ratios_restricted}
 use Rattle.mk_tree.specs.Given.{GivenTree, AreLinked, holds, link_of}
 use Rattle.mk_engine.specs.Meaning.{Factor, factor_there, max_factors}
-use Rattle.mk_propagate.specs.Shapes.{ShapeOf, IsShapeFor, IsClique, is_behind, clique_scope, core_scope, separator_scope, separator_between, clique_cells, in_core}
+use Rattle.mk_plan.specs.Shapes.{ShapeOf, IsShapeFor, IsClique, is_behind, clique_scope, core_scope, separator_scope, separator_between, clique_cells, in_core}
 use Rattle.mk_propagate.specs.Placings.{Placing, PlacedFactor, PlacedPair, with_factor_in, with_pair_in, nothing_placed, factor_item, pair_item, placed_there, factors_in, ratios_in, IsPlacedFactor, IsPlacedPair, IsPlacing, IsCommon}
 use Rattle.mk_propagate.specs.Flows.{FlowOf, no_table, table_at, core_at, is_summed, message_at, HasCells, HasSums, HasPlaced, IsRight, KeepsMessages, Places, core_there, core_steps, private_cells, exact_message, exact_message_grade, message_ratios}
 use Rattle.mk_propagate.specs.inner.Kept.{IsKept, AreOverCores}

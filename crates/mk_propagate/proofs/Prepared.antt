@@ -10,7 +10,7 @@ use Rattle.mk_scope.specs.Cells.{cell_in}
 use Rattle.mk_table.specs.Tables.{TableOf, HasNumbers, HasRoom}
 use Rattle.mk_table.specs.Ratios.{KeepsPairs}
 use Rattle.mk_tree.specs.Given.{link_of}
-use Rattle.mk_propagate.specs.Shapes.{ShapeOf, IsShapeFor, IsClique, are_linked as is_linked, core_scope, separator_scope, separator_between, neighbours}
+use Rattle.mk_plan.specs.Shapes.{ShapeOf, IsShapeFor, IsClique, are_linked as is_linked, core_scope, separator_scope, separator_between, neighbours}
 use Rattle.mk_propagate.specs.Placings.{Placing, IsPlacing}
 use Rattle.mk_propagate.specs.Flows.{HasSums}
 use Rattle.mk_propagate.specs.inner.Gathered.{is_taken, message_in, IsRightIn, CanTake, HasGathered, HasInto, IsGathering, IsMargin, IsPlacedIn}

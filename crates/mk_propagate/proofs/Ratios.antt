@@ -21,11 +21,11 @@ use Rattle.mk_tree.specs.Given.{GivenTree, holds, link_of}
 use Rattle.mk_engine.specs.Meaning.{Factor, RowsOf, SupportOf, RatioOf, is_ratio}
 use Rattle.mk_engine.specs.Apart.{HasCondition}
 use Rattle.mk_engine.proofs.Apart.{ratio_count}
-use Rattle.mk_propagate.specs.Shapes.{ShapeOf, IsShapeFor, IsClique, is_behind, in_core, neighbours}
+use Rattle.mk_plan.specs.Shapes.{ShapeOf, IsShapeFor, IsClique, is_behind, in_core, neighbours}
 use Rattle.mk_propagate.specs.Placings.{Placing, PlacedFactor, with_factor_in, IsPlacing, IsFactorIn, IsPlacedFactor, IsCommon, ratios_in}
 use Rattle.mk_propagate.specs.Flows.{message_ratios}
 use Rattle.mk_propagate.specs.inner.Gathered.{is_input, gathered_ratios}
-use Rattle.mk_propagate.proofs.Cores.{core_has}
+use Rattle.mk_plan.proofs.Cores.{core_has}
 use Rattle.mk_propagate.proofs.Inputs.{sum_inputs, sum_parted}
 
 -- ---- a factor more

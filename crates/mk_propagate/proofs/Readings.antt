@@ -28,11 +28,11 @@ use Rattle.mk_scope.specs.Cells.{values_at, cells_where}
 use Rattle.mk_tree.specs.Given.{holds as clique_holds, GivenTree, clique_at, link_of, holds_event}
 use Rattle.mk_tree.specs.Tests.{holds_family}
 use Rattle.mk_engine.specs.Meaning.{Meaning, Factor, RowsOf, SupportOf, RatioOf, factor_there, exact_belief, whole_sum}
-use Rattle.mk_propagate.specs.Shapes.{ShapeOf, IsShapeFor, IsClique, scope_within}
+use Rattle.mk_plan.specs.Shapes.{ShapeOf, IsShapeFor, IsClique, scope_within}
 use Rattle.mk_propagate.specs.Placings.{Placing, PlacedFactor, PlacedPair, IsFactorIn, IsPlacedFactor, IsPlacedPair, IsPlacing, factor_item, pair_item, items_of, placed_there, meaning_of}
 use Rattle.mk_propagate.specs.Flows.{exact_message}
-use Rattle.mk_propagate.proofs.Scopes.{listed_variable, variable_of_network}
-use Rattle.mk_propagate.proofs.Required.{all_pass}
+use Rattle.mk_plan.proofs.Scopes.{listed_variable, variable_of_network}
+use Rattle.mk_plan.proofs.Required.{all_pass}
 use Rattle.mk_propagate.proofs.Margins.{total_over}
 
 -- what a factor reads

@@ -5,14 +5,14 @@ use Rattle.std.proofs.lemmas.List.{get_or_default, get_or-set_same, get_or-set_o
 use Rattle.mk_sums.proofs.Hops.{AreLinked, IsChild, are_linked}
 use Rattle.mk_table.specs.Tables.{TableOf}
 use Rattle.mk_tree.specs.Given.{link_of}
-use Rattle.mk_propagate.specs.Shapes.{ShapeOf, IsClique, are_linked as is_linked, core_scope, separator_scope, separator_between, neighbours}
+use Rattle.mk_plan.specs.Shapes.{ShapeOf, IsClique, are_linked as is_linked, core_scope, separator_scope, separator_between, neighbours}
 use Rattle.mk_propagate.specs.Placings.{Placing}
 use Rattle.mk_propagate.specs.Flows.{FlowOf, HasPlaced, HasSums, IsRight, AreRightBut, no_table, table_at, core_at, is_summed, message_at}
 use Rattle.mk_propagate.specs.inner.Kept.{IsKept, AreOverCores}
 use Rattle.mk_propagate.specs.inner.Gathered.{is_input, IsRightIn, CanTake, HasGathered, HasInto, HasOutgoing}
 use Rattle.mk_propagate.proofs.Placed.{AreOthersKept, table_read}
 use Rattle.mk_propagate.proofs.Messages.{are_ends}
-use Rattle.mk_propagate.proofs.Split.{core_split}
+use Rattle.mk_plan.proofs.Split.{core_split}
 use Rattle.mk_propagate.proofs.Boards.{read_there}
 
 -- a list of tables, one of which is put anew over the same scope

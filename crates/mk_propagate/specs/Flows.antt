@@ -13,7 +13,7 @@ use Rattle.mk_table.specs.Ratios.{HasRatios}
 use Rattle.mk_tree.specs.Given.{GivenTree, clique_at, holds, link_of, holds_event}
 use Rattle.mk_engine.specs.Meaning.{exact_belief, whole_sum, max_factors}
 use Rattle.mk_engine.specs.Apart.{IsApart, without_ratios}
-use Rattle.mk_propagate.specs.Shapes.{ShapeOf, IsShapeFor, IsClique, are_linked, is_behind, next_on_way, clique_scope, core_scope, separator_between, clique_cells, no_scope, scope_within, in_core}
+use Rattle.mk_plan.specs.Shapes.{ShapeOf, IsShapeFor, IsClique, are_linked, is_behind, next_on_way, clique_scope, core_scope, separator_between, clique_cells, no_scope, scope_within, in_core}
 use Rattle.mk_propagate.specs.Placings.{Placing, IsPlacing, IsCommon, placed_there, factors_in, ratios_in, meaning_of}
 
 -- Beside the table of each clique lies one over its core, and whether that was summed. Upward are the messages of the cliques from 2 on to

@@ -1,4 +1,3 @@
-pub mod Shapes
 pub mod Placings
 pub mod Flows
 pub mod inner

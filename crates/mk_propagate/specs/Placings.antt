@@ -9,7 +9,7 @@ use Rattle.mk_tree.specs.Given.{GivenTree, clique_at, holds, holds_event}
 use Rattle.mk_tree.specs.Tests.{holds_family}
 use Rattle.mk_engine.specs.Meaning.{Meaning, Factor, RowsOf, SupportOf, RatioOf, factor_there, is_ratio, max_factors}
 use Rattle.mk_engine.specs.Apart.{HasCondition}
-use Rattle.mk_propagate.specs.Shapes.{IsClique}
+use Rattle.mk_plan.specs.Shapes.{IsClique}
 
 pub record PlacedFactor : Type 0 where
   pub clique : ℕ

@@ -1,7 +1,6 @@
 -- What only proofs and private contracts cite.
 pub mod Kept
 pub mod Gathered
-pub mod Shaped
 pub mod Passes
 pub mod Ones
 pub mod Totals

@@ -25,8 +25,8 @@ ghost use Rattle.mk_propagate.specs.inner.Ones.{IsStart};
 ghost use Rattle.mk_propagate.specs.inner.Totals.{HaveTotal, IsTotal};
 
 use crate::read::value_of;
-use crate::shape::Shape;
 use mk_net::{Event, Network, NoMemory, Pair, Ratio};
+use mk_plan::Shape;
 use mk_scope::{CellList, Places};
 use mk_semiring::Semiring;
 use mk_table::Tables;

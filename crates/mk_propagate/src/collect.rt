@@ -1,13 +1,13 @@
 //! The order in which messages are made.
 
 ghost use Rattle.std.specs.Prelude.{◌≡◌, ◌≢◌, length, true};
-ghost use Rattle.mk_propagate.specs.Shapes.{IsClique};
+ghost use Rattle.mk_plan.specs.Shapes.{IsClique};
 ghost use Rattle.mk_propagate.specs.Placings.{Placing};
 ghost use Rattle.mk_propagate.specs.Flows.{HasPlaced, CanCollect, CanDistribute, AreRightTowards, AreAllRight, KeepsTables, separators_of, counted_on};
 ghost use Rattle.mk_propagate.specs.inner.Passes.{leads_up, leads_down, count_of, AreRightFrom, AreRightTo, CanCollectDown, CanDistributeDown};
 
 use crate::flow::Flow;
-use crate::shape::Shape;
+use mk_plan::Shape;
 use mk_semiring::Semiring;
 
 impl<R: Semiring> Flow<R> {

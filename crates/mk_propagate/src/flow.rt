@@ -6,15 +6,15 @@ ghost use Rattle.mk_net.specs.Network.{Variable};
 ghost use Rattle.mk_sums.specs.Trees.{sum_of};
 ghost use Rattle.mk_scope.specs.Scopes.{cells_in};
 ghost use Rattle.mk_engine.specs.Meaning.{RowsOf, SupportOf, RatioOf};
-ghost use Rattle.mk_propagate.specs.Shapes.{IsShapeFor, clique_scope};
+ghost use Rattle.mk_plan.specs.Shapes.{IsShapeFor, clique_scope};
 ghost use Rattle.mk_propagate.specs.Placings.{Placing, nothing_placed, with_factor_in, with_pair_in, IsPlacedFactor, IsPlacedPair};
 ghost use Rattle.mk_propagate.specs.Flows.{HasPlaced, CanPlace, Places, KeepsMessages};
 
 use crate::board::Board;
 use crate::gathered::Gathered;
-use crate::shape::Shape;
 use crate::sums::follow;
 use mk_net::{Network, NoMemory, Pair, Ratio};
+use mk_plan::Shape;
 use mk_scope::CellList;
 use mk_semiring::Semiring;
 use std::alloc::Global;

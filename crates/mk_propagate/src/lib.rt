@@ -7,8 +7,6 @@ mod flow;
 mod gathered;
 mod message;
 mod read;
-mod shape;
 mod sums;
 
 pub use flow::Flow;
-pub use shape::Shape;

@@ -3,8 +3,8 @@
 ghost use Rattle.std.specs.Prelude.{◌≡◌, ℕ, ◌+◌, ◌<◌, length, true, false, None, Some};
 ghost use Rattle.mk_table.specs.Tables.{HasRoom};
 ghost use Rattle.mk_propagate.specs.declared.gathered.Gathered.TheVariants.{Everything};
-ghost use Rattle.mk_propagate.specs.Shapes.{IsClique, are_linked, core_scope, separator_between};
-ghost use Rattle.mk_propagate.specs.Shapes.{neighbours};
+ghost use Rattle.mk_plan.specs.Shapes.{IsClique, are_linked, core_scope, separator_between};
+ghost use Rattle.mk_plan.specs.Shapes.{neighbours};
 ghost use Rattle.mk_propagate.specs.Placings.{Placing};
 ghost use Rattle.mk_propagate.specs.Flows.{HasPlaced, AreRightBut, IsRight, CanSend, KeepsTables};
 ghost use Rattle.mk_propagate.specs.Flows.{message_at, counted_on};
@@ -18,8 +18,8 @@ ghost use Rattle.mk_propagate.specs.inner.Gathered.{IsTimesMessage};
 use crate::board::Board;
 use crate::flow::Flow;
 use crate::gathered::Gathered;
-use crate::shape::Shape;
 use crate::sums::sum_core;
+use mk_plan::Shape;
 use mk_scope::Places;
 use mk_semiring::Semiring;
 

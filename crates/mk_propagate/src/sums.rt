@@ -5,15 +5,15 @@ ghost use Rattle.mk_net.specs.Network.{Variable};
 ghost use Rattle.mk_net.specs.Trades.{trade_ratio};
 ghost use Rattle.mk_table.specs.Tables.{HasRoom};
 ghost use Rattle.mk_engine.specs.Meaning.{RatioOf};
-ghost use Rattle.mk_propagate.specs.Shapes.{IsShapeFor, IsClique, clique_scope, core_scope};
+ghost use Rattle.mk_plan.specs.Shapes.{IsShapeFor, IsClique, clique_scope, core_scope};
 ghost use Rattle.mk_propagate.specs.Placings.{Placing, IsPlacedFactor};
 ghost use Rattle.mk_propagate.specs.Flows.{HasSums};
 ghost use Rattle.mk_propagate.specs.inner.Boards.{IsOver, CanSum, table_of, core_of, with_core};
 ghost use Rattle.mk_propagate.specs.inner.Gathered.{IsFollowed, IsPlacedIn};
 
 use crate::board::Board;
-use crate::shape::Shape;
 use mk_net::Ratio;
+use mk_plan::Shape;
 use mk_scope::CellList;
 use mk_semiring::Semiring;
 

@@ -19,10 +19,10 @@ use Rattle.mk_tree.specs.Checked.{IsTreeOf}
 use Rattle.mk_engine.specs.Meaning.{Meaning, Factor, exact_belief, whole_sum, max_grade, tree_grade}
 use Rattle.mk_engine.specs.Beliefs.{IsBelief}
 use Rattle.mk_engine.specs.Apart.{IsApart, without_ratios}
-use Rattle.mk_propagate.specs.Shapes.{ShapeOf, IsClique, are_linked, next_on_way, clique_cells}
+use Rattle.mk_plan.specs.Shapes.{ShapeOf, IsClique, are_linked, next_on_way, clique_cells}
 use Rattle.mk_propagate.specs.Placings.{Placing, PlacedFactor, PlacedPair, meaning_of}
 use Rattle.mk_propagate.specs.Flows.{HasPlaced, AreRightInto, CanRead, IsReading, all_cells, reading_grade, counted_on}
-use Rattle.mk_propagate.proofs.Scopes.{clique_counted}
+use Rattle.mk_plan.proofs.Scopes.{clique_counted}
 use Rattle.mk_tree_engine.specs.Engines.{MarkedFlow, HasTree, ClearsTowards, is_stale, leads_towards, placing_of, factor_home, pair_home, stale_number}
 use Rattle.mk_tree_engine.specs.inner.Marks.{AreMarksOf, AreCurrentTowards, IsMarked}
 use Rattle.mk_tree_engine.specs.inner.Passes.{AreCurrent, AreCollected, CanCollect, IsCount}

@@ -7,7 +7,7 @@ use Rattle.mk_sums.proofs.Hops as hops
 use Rattle.mk_sums.proofs.Stale as stale
 use Rattle.mk_tree.specs.Given as given
 use Rattle.mk_tree.specs.Given.{GivenTree, link_of}
-use Rattle.mk_propagate.specs.Shapes.{ShapeOf, IsClique, are_linked, next_on_way}
+use Rattle.mk_plan.specs.Shapes.{ShapeOf, IsClique, are_linked, next_on_way}
 use Rattle.mk_propagate.specs.Placings.{Placing}
 use Rattle.mk_propagate.specs.Flows.{HasPlaced, AreRightBut, counted_on}
 use Rattle.mk_tree_engine.specs.Engines.{MarkedFlow, is_stale, leads_towards}

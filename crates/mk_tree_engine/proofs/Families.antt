@@ -12,8 +12,8 @@ use Rattle.mk_tree.specs.Given.{GivenTree, clique_at, home}
 use Rattle.mk_tree.specs.Tests.{holds_family, is_covered}
 use Rattle.mk_tree.specs.Held.{IsHeldAt}
 use Rattle.mk_engine.specs.Meaning.{RatioOf}
-use Rattle.mk_propagate.specs.Shapes.{IsClique}
-use Rattle.mk_propagate.proofs.Starts.{first_passes, at_place}
+use Rattle.mk_plan.specs.Shapes.{IsClique}
+use Rattle.mk_plan.proofs.Starts.{first_passes, at_place}
 use Rattle.mk_tree_engine.specs.Engines.{factor_home, pair_home}
 
 -- no item passes

@@ -4,7 +4,7 @@ use Rattle.std.proofs.lemmas.Bool.{cases_eq, cases_Bool, cond-true, cond-false, 
 use Rattle.mk_sums.proofs.Hops as hops
 use Rattle.mk_tree.specs.Given as given
 use Rattle.mk_tree.specs.Given.{GivenTree, link_of}
-use Rattle.mk_propagate.specs.Shapes.{ShapeOf, are_linked}
+use Rattle.mk_plan.specs.Shapes.{ShapeOf, are_linked}
 use Rattle.mk_propagate.specs.Placings.{Placing}
 use Rattle.mk_propagate.proofs.Placed.{right_kept}
 use Rattle.mk_propagate.specs.Flows.{FlowOf, HasPlaced, IsRight, AreRightBut, KeepsTables, counted_on, message_at}

@@ -8,7 +8,7 @@ use Rattle.mk_sums.proofs.Hops as hops
 use Rattle.mk_sums.proofs.Stale as stale
 use Rattle.mk_tree.specs.Given as given
 use Rattle.mk_tree.specs.Given.{GivenTree, link_of}
-use Rattle.mk_propagate.specs.Shapes.{IsClique, are_linked, is_behind, next_on_way}
+use Rattle.mk_plan.specs.Shapes.{IsClique, are_linked, is_behind, next_on_way}
 use Rattle.mk_tree_engine.specs.Engines.{leads_towards}
 use Rattle.mk_tree_engine.specs.inner.Marks.{marked_stale, AreMarks, AreMarkedUp, AreMarkedDown, AreMarkedFrom, AreCurrentTowards, kept_in}
 use Rattle.mk_tree_engine.proofs.Making.{read_up, read_down}

@@ -5,7 +5,7 @@ use Rattle.mk_sums.specs.Trees.{sum_of}
 use Rattle.mk_sums.proofs.Stale as stale
 use Rattle.mk_sums.proofs.Ways as ways
 use Rattle.mk_tree.specs.Given.{link_of}
-use Rattle.mk_propagate.specs.Shapes.{ShapeOf, next_on_way, is_behind}
+use Rattle.mk_plan.specs.Shapes.{ShapeOf, next_on_way, is_behind}
 use Rattle.mk_tree_engine.specs.Engines.{is_stale}
 use Rattle.mk_tree_engine.specs.Laws.{OnePerSeparator, StaleBetween}
 use Rattle.mk_tree_engine.proofs.Sums.{sum_same, ones_but, zero_each}

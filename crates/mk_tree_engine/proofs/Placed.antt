@@ -6,7 +6,7 @@ use Rattle.std.proofs.lemmas.List.{map-append, length-map}
 use Rattle.mk_net.specs.declared.words.Pair.{Pair}
 use Rattle.mk_tree.specs.Given.{GivenTree}
 use Rattle.mk_engine.specs.Meaning.{Meaning, Factor, with_factor, with_known, max_factors}
-use Rattle.mk_propagate.specs.Shapes.{ShapeOf, are_linked, is_behind}
+use Rattle.mk_plan.specs.Shapes.{ShapeOf, are_linked, is_behind}
 use Rattle.mk_propagate.specs.Placings.{Placing, PlacedFactor, PlacedPair, with_factor_in, with_pair_in}
 use Rattle.mk_propagate.proofs.Placed.{right_still}
 use Rattle.mk_propagate.specs.Flows.{FlowOf, HasPlaced, IsRight, CanPlace, Places, KeepsMessages, KeepsTables}

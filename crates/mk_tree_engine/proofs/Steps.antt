@@ -4,7 +4,7 @@ use Rattle.std.proofs.lemmas.Bool.{le-ltb, both_ways}
 use Rattle.mk_sums.specs.Trees.{linked_but}
 use Rattle.mk_sums.proofs.Stale as stale
 use Rattle.mk_tree.specs.Given.{link_of}
-use Rattle.mk_propagate.specs.Shapes.{ShapeOf, IsClique, are_linked, next_on_way}
+use Rattle.mk_plan.specs.Shapes.{ShapeOf, IsClique, are_linked, next_on_way}
 use Rattle.mk_propagate.specs.Flows.{CanSend}
 use Rattle.mk_tree_engine.specs.Engines.{MarkedFlow}
 use Rattle.mk_tree_engine.specs.inner.Marks.{AreMarksOf}

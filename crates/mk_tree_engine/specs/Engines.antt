@@ -8,7 +8,7 @@ use Rattle.mk_sums.specs.Trees.{sum_of}
 use Rattle.mk_tree.specs.Given.{GivenTree, home}
 use Rattle.mk_tree.specs.Tests.{holds_family}
 use Rattle.mk_engine.specs.Meaning.{Meaning, Factor, RowsOf, SupportOf, RatioOf}
-use Rattle.mk_propagate.specs.Shapes.{ShapeOf, IsShapeFor, are_linked, next_on_way, is_behind}
+use Rattle.mk_plan.specs.Shapes.{ShapeOf, IsShapeFor, are_linked, next_on_way, is_behind}
 use Rattle.mk_propagate.specs.Placings.{Placing}
 use Rattle.mk_propagate.specs.Flows.{FlowOf, HasPlaced, IsRight}
 

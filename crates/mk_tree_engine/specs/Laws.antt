@@ -2,7 +2,7 @@
 use Rattle.std.specs.Prelude.{◌≡◌, ℕ, ◌-◌, ◌≤◌, length}
 use Rattle.mk_sums.specs.Trees.{way}
 use Rattle.mk_tree.specs.Given.{link_of, AreLinked}
-use Rattle.mk_propagate.specs.Shapes.{IsClique}
+use Rattle.mk_plan.specs.Shapes.{IsClique}
 use Rattle.mk_tree_engine.specs.Engines.{MarkedFlow, stale_number, MarksAway}
 
 -- a belief makes at most one message for each separator

@@ -8,7 +8,7 @@ ghost use Rattle.mk_tree.specs.Given.{clique_at};
 ghost use Rattle.mk_tree.specs.Tests.{holds_family};
 ghost use Rattle.mk_tree.specs.Checked.{IsTreeOf};
 ghost use Rattle.mk_engine.specs.Meaning.{RowsOf};
-ghost use Rattle.mk_propagate.specs.Shapes.{IsClique};
+ghost use Rattle.mk_plan.specs.Shapes.{IsClique};
 ghost use Rattle.mk_tree_engine.specs.Engines.{factor_home};
 
 use mk_net::{Network, VarSet};

@@ -1,11 +1,11 @@
 //! Marks of the messages that are stale.
 
 ghost use Rattle.std.specs.Prelude.{◌≡◌, ◌≢◌, ℕ, ◌+◌, ◌-◌, ◌<◌, ◌≤◌, length, None, IfOk};
-ghost use Rattle.mk_propagate.specs.Shapes.{IsClique};
+ghost use Rattle.mk_plan.specs.Shapes.{IsClique};
 ghost use Rattle.mk_tree_engine.specs.inner.Marks.{marked_stale, AreMarks, AreAllStale, AreMarkedUp, AreMarkedDown, AreMarkedFrom, cleared_up, cleared_down, kept_in};
 
 use mk_net::NoMemory;
-use mk_propagate::Shape;
+use mk_plan::Shape;
 use std::alloc::Global;
 
 /// Whether each message is stale: those of the cliques from 2 on to their links, and those of the links to them. Beside them a

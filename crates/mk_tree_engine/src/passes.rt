@@ -2,14 +2,15 @@
 
 ghost use Rattle.std.specs.Prelude.{◌≡◌, ◌≢◌, ℕ, ◌+◌, ◌<◌, ◌≤◌, ◌&&◌, ◌==◌, not, length, true, Some};
 ghost use Rattle.std.specs.Option.{ForSome};
-ghost use Rattle.mk_propagate.specs.Shapes.{IsClique, next_on_way};
+ghost use Rattle.mk_plan.specs.Shapes.{IsClique, next_on_way};
 ghost use Rattle.mk_propagate.specs.Flows.{CanSend};
 ghost use Rattle.mk_tree_engine.specs.Engines.{MarkedFlow};
 ghost use Rattle.mk_tree_engine.specs.inner.Marks.{marked, marked_stale, AreMarksOf, AreCurrentTowards, stale_marks};
 ghost use Rattle.mk_tree_engine.specs.inner.Passes.{goes_up, goes_down, passed_up, passed_down, AreCollected, CanCollect, CanCollectDown, IsMade};
 
 use crate::marks::Marks;
-use mk_propagate::{Flow, Shape};
+use mk_plan::Shape;
+use mk_propagate::Flow;
 use mk_semiring::Semiring;
 
 /// Makes the stale messages that lead towards a clique. Where none towards some other clique is stale, only those on the way from

@@ -4,7 +4,7 @@ use Rattle.std.proofs.lemmas.Bool.{eq-eqb}
 use Rattle.mk_sums.specs.Trees.{linked_to, hop}
 use Rattle.mk_sums.proofs.Hops.{are_linked, linked_back, hop_near}
 use Rattle.mk_tree.specs.Given.{link_of}
-use Rattle.mk_propagate.specs.Shapes.{ShapeOf, IsClique, next_on_way}
+use Rattle.mk_plan.specs.Shapes.{ShapeOf, IsClique, next_on_way}
 use Rattle.mk_propagate.specs.Placings.{Placing}
 use Rattle.mk_propagate.specs.Flows.{FlowOf, HasPlaced, IsRight, AreRightInto, AreRightTowards, KeepsMessages, KeepsTables, Places}
 use Rattle.mk_propagate.proofs.Messages.{are_ends}

@@ -8,13 +8,14 @@ ghost use Rattle.mk_net.specs.Trades.{trade_ratio};
 ghost use Rattle.mk_tree.specs.Given.{clique_at, holds_event};
 ghost use Rattle.mk_tree.specs.Checked.{IsTreeOf};
 ghost use Rattle.mk_tree.specs.Tests.{holds_family};
-ghost use Rattle.mk_propagate.specs.Shapes.{IsShapeFor, IsClique};
+ghost use Rattle.mk_plan.specs.Shapes.{IsShapeFor, IsClique};
 ghost use Rattle.mk_tree_trials.specs.Placed.{HasSome, IsCollected, IsReady, KeepsReady};
 
 use crate::fixtures::{check, only};
 use mk_file::MarketFile;
 use mk_net::{Event, Network, NoMemory, Pair, Question, Ratio, VarSet};
-use mk_propagate::{Flow, Shape};
+use mk_plan::Shape;
+use mk_propagate::Flow;
 use mk_semiring::{Held, MinProd, Semiring, SumProd};
 use mk_tree::Tree;
 use std::alloc::Global;
@@ -120,8 +121,7 @@ fn away<R: Semiring>(rt: &impl Abort, flow: &mut Flow<R>, clique: u32)
     flow.distribute(clique);
 }
 
-/// Stops unless these are the beliefs in an event, read in a clique once the messages towards it are made, and once those away
-/// from it are.
+/// Stops unless these are the beliefs in an event, read in a clique after the messages towards it, and after those away from it.
 fn around<R: Semiring<Value = Held>>(
     rt: &impl Abort,
     flow: &mut Flow<R>,

@@ -12,9 +12,9 @@ use Rattle.mk_scope.specs.Scopes.{ScopeOf, HasSized}
 use Rattle.mk_tree.specs.Given.{GivenTree, home, holds}
 use Rattle.mk_tree.proofs.Held.{home_is_held}
 use Rattle.mk_engine.specs.Meaning.{Meaning, ArePairsOf}
-use Rattle.mk_propagate.specs.Shapes.{ShapeOf, IsShapeFor, IsClique, clique_scope}
-use Rattle.mk_propagate.proofs.Scopes.{sized_within}
-use Rattle.mk_propagate.proofs.Required.{same_sizes, pair_same, ratio_same, all_pass}
+use Rattle.mk_plan.specs.Shapes.{ShapeOf, IsShapeFor, IsClique, clique_scope}
+use Rattle.mk_plan.proofs.Scopes.{sized_within}
+use Rattle.mk_plan.proofs.Required.{same_sizes, pair_same, ratio_same, all_pass}
 use Rattle.mk_user_engine.specs.declared.engine.UserEngine.{UserEngine}
 use Rattle.mk_user_engine.specs.NarrowForm.{CanTake}
 use Rattle.mk_user_engine.specs.Users.{StandsFor, IsBeside}

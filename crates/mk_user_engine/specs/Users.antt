@@ -2,7 +2,7 @@
 use Rattle.std.specs.Prelude.{◌≡◌, true, false}
 use Rattle.mk_cell.specs.Least.{least}
 use Rattle.mk_engine.specs.Meaning.{Meaning, opening}
-use Rattle.mk_propagate.specs.Shapes.{IsShapeFor}
+use Rattle.mk_plan.specs.Shapes.{IsShapeFor}
 use Rattle.mk_tree_engine.specs.Engines.{MarkedFlow, HasTree}
 use Rattle.mk_user_engine.specs.declared.engine.UserEngine.{UserEngine}
 use Rattle.mk_user_engine.specs.NarrowForm.{IsNarrow}

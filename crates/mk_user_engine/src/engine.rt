@@ -18,7 +18,7 @@ ghost use Rattle.mk_user_engine.specs.Users.{StandsFor, Begun};
 use crate::narrow::Narrow;
 use mk_engine::{Engine, TreeGraded};
 use mk_net::{Event, Network, NoMemory, Pair, Ratio};
-use mk_propagate::Shape;
+use mk_plan::Shape;
 use mk_semiring::{Held, MinProd};
 use mk_tree::Tree;
 use mk_tree_engine::TreeEngine;

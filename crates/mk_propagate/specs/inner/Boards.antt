@@ -7,7 +7,7 @@ use Rattle.std.specs.Prelude.{Bool, Option, if◌then◌else◌, slice_index_or,
 use Rattle.mk_scope.specs.Scopes.{PlacesOf, cells_in}
 use Rattle.mk_table.specs.Tables.{TableOf, HasRoom}
 use Rattle.mk_tree.specs.Given.{max_tree_cliques}
-use Rattle.mk_propagate.specs.Shapes.{ShapeOf}
+use Rattle.mk_plan.specs.Shapes.{ShapeOf}
 use Rattle.mk_propagate.specs.Flows.{no_table}
 use Rattle.mk_propagate.specs.inner.Gathered.{message_in, IsGathering}
 

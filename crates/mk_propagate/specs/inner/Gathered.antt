@@ -13,7 +13,7 @@ use Rattle.mk_tree.specs.Given.{GivenTree, link_of}
 use Rattle.mk_engine.specs.Meaning.{RatioOf}
 use Rattle.mk_propagate.specs.declared.gathered.Gathered.{Gathered}
 use Rattle.mk_propagate.specs.declared.gathered.Gathered.TheVariants.{Nothing, Everything, AllBut}
-use Rattle.mk_propagate.specs.Shapes.{ShapeOf, IsShapeFor, are_linked, clique_scope, core_scope, separator_between, neighbours}
+use Rattle.mk_plan.specs.Shapes.{ShapeOf, IsShapeFor, are_linked, clique_scope, core_scope, separator_between, neighbours}
 use Rattle.mk_propagate.specs.Placings.{Placing, IsPlacing, IsPlacedFactor, IsCommon, placed_there, factors_in, ratios_in, with_factor_in}
 use Rattle.mk_propagate.specs.Flows.{HasCells, HasSums, exact_message, exact_message_grade, message_ratios, no_table}
 

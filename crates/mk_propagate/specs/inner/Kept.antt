@@ -5,7 +5,7 @@ use Rattle.mk_sums.specs.Trees.{sum_of}
 use Rattle.mk_scope.specs.Scopes.{cells_in}
 use Rattle.mk_table.specs.Tables.{TableOf}
 use Rattle.mk_tree.specs.Given.{GivenTree, AreLinked}
-use Rattle.mk_propagate.specs.Shapes.{IsClique, clique_scope, core_scope, separator_scope}
+use Rattle.mk_plan.specs.Shapes.{IsClique, clique_scope, core_scope, separator_scope}
 use Rattle.mk_propagate.specs.Flows.{FlowOf, table_at, core_at, is_summed, no_table}
 use Rattle.mk_propagate.specs.declared.gathered.Gathered.{Gathered}
 use Rattle.mk_propagate.specs.declared.gathered.Gathered.TheVariants.{Nothing}

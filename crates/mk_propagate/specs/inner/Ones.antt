@@ -3,7 +3,7 @@ use Rattle.std.specs.Prelude.{◌≡◌, ℕ, ◌+◌, ◌-◌, ◌<◌, List, l
 use Rattle.mk_scope.specs.Scopes.{ScopeOf}
 use Rattle.mk_table.specs.Tables.{TableOf}
 use Rattle.mk_table.specs.Lists.{IsOnes}
-use Rattle.mk_propagate.specs.Shapes.{ShapeOf, clique_scope, core_scope, separator_scope}
+use Rattle.mk_plan.specs.Shapes.{ShapeOf, clique_scope, core_scope, separator_scope}
 use Rattle.mk_propagate.specs.Flows.{no_table}
 use Rattle.mk_propagate.specs.inner.Boards.{BoardOf}
 

@@ -2,7 +2,7 @@
 use Rattle.std.specs.Prelude.{◌≡◌, ℕ, Bool, true, ◌&&◌, not, ◌==◌, nat_lt}
 use Rattle.mk_sums.specs.Trees.{sum_of}
 use Rattle.mk_tree.specs.Given.{GivenTree}
-use Rattle.mk_propagate.specs.Shapes.{IsClique, next_on_way}
+use Rattle.mk_plan.specs.Shapes.{IsClique, next_on_way}
 use Rattle.mk_propagate.specs.Placings.{Placing}
 use Rattle.mk_propagate.specs.Flows.{FlowOf, HasPlaced, IsRight, AreRightTowards}
 

@@ -3,7 +3,7 @@ use Rattle.std.specs.Prelude.{◌≡◌, ℕ, ◌+◌, ◌-◌, ◌<◌, List, l
 use Rattle.std.specs.Option.{ForSome}
 use Rattle.mk_tree.specs.Given.{GivenTree, link_of, AreLinked}
 use Rattle.mk_sums.specs.Trees.{sum_of}
-use Rattle.mk_propagate.specs.Shapes.{IsClique, are_linked, is_behind, next_on_way}
+use Rattle.mk_plan.specs.Shapes.{IsClique, are_linked, is_behind, next_on_way}
 use Rattle.mk_propagate.specs.Flows.{FlowOf}
 use Rattle.mk_tree_engine.specs.Engines.{MarkedFlow, leads_towards}
 

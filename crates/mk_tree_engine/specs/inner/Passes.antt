@@ -2,7 +2,7 @@
 use Rattle.std.specs.Prelude.{◌≡◌, ℕ, ◌+◌, ◌≤◌, length, Bool, true, false, not, ◌&&◌, ◌||◌, ◌==◌, nat_lt, if◌then◌else◌}
 use Rattle.mk_sums.specs.Trees.{sum_of}
 use Rattle.mk_tree.specs.Given.{GivenTree}
-use Rattle.mk_propagate.specs.Shapes.{IsClique, are_linked, next_on_way}
+use Rattle.mk_plan.specs.Shapes.{IsClique, are_linked, next_on_way}
 use Rattle.mk_propagate.specs.Placings.{Placing}
 use Rattle.mk_propagate.specs.Flows.{HasPlaced, IsRight, AreRightBut, KeepsTables, counted_on}
 use Rattle.mk_tree_engine.specs.Engines.{MarkedFlow, is_stale, leads_towards}

@@ -1,7 +1,7 @@
 use Rattle.std.proofs.Common.{◌≡◌, ◌*◌, ◌≤◌, true}
 use Rattle.mk_sums.specs.Trees.{sum_of}
 use Rattle.mk_scope.specs.Scopes.{cells_in}
-use Rattle.mk_propagate.specs.Shapes.{clique_scope}
+use Rattle.mk_plan.specs.Shapes.{clique_scope}
 use Rattle.mk_propagate.proofs.flow.count_cells.Given as goal
 
 abbrev pub invariant-loop-passed : goal.invariant-loop-passed

@@ -7,11 +7,11 @@ use Rattle.mk_sums.specs.Trees.{linked}
 use Rattle.mk_sums.proofs.Hops.{are_linked, linked_back, linked_from}
 use Rattle.mk_table.specs.Tables.{TableOf}
 use Rattle.mk_tree.specs.Given.{link_of}
-use Rattle.mk_propagate.specs.Shapes.{ShapeOf, IsClique, neighbours}
+use Rattle.mk_plan.specs.Shapes.{ShapeOf, IsClique, neighbours}
 use Rattle.mk_propagate.specs.Placings.{Placing}
 use Rattle.mk_propagate.specs.inner.Gathered.{is_taken, message_in, CanTake, IsGathering}
 use Rattle.mk_propagate.specs.inner.Gathered.{IsMessageAlone, IsTimesMessage, IsRightIn}
-use Rattle.mk_propagate.proofs.Cores.{neighbour_linked}
+use Rattle.mk_plan.proofs.Cores.{neighbour_linked}
 use Rattle.mk_propagate.proofs.Messages.{first_taken, passed_by, taken_too, taken_room}
 use Rattle.mk_propagate.proofs.Messages.{message_room}
 use Rattle.mk_propagate.specs.inner.Boards.{BoardOf, IsGatheringIn, product_of, message_of}

@@ -1,6 +1,6 @@
 use Rattle.std.proofs.Common.{sym, ap, ◌∙◌}
 use Rattle.mk_scope.specs.Scopes.{ScopeOf}
-use Rattle.mk_propagate.specs.Shapes.{core_scope}
+use Rattle.mk_plan.specs.Shapes.{core_scope}
 use Rattle.mk_propagate.specs.inner.Boards.{table_of, core_of}
 use Rattle.mk_propagate.proofs.Prepared.{sums_of}
 use Rattle.mk_propagate.proofs.Boards.{core_same}

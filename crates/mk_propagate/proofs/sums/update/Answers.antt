@@ -3,7 +3,7 @@ use Rattle.std.specs.List.{list_all}
 use Rattle.mk_net.specs.declared.words.Pair.{Pair}
 use Rattle.mk_net.specs.Trades.{trade_ratio}
 use Rattle.mk_scope.specs.Scopes.{ScopeOf}
-use Rattle.mk_propagate.specs.Shapes.{core_scope, in_core}
+use Rattle.mk_plan.specs.Shapes.{core_scope, in_core}
 use Rattle.mk_propagate.specs.inner.Boards.{table_of, core_of}
 use Rattle.mk_propagate.proofs.Followed.{core_event, core_one_each, followed_times, followed_again}
 use Rattle.mk_propagate.proofs.Boards.{core_same}

@@ -1,5 +1,5 @@
 use Rattle.std.proofs.Common.{◌≡◌, ◌≢◌, ◌+◌, ◌-◌, ◌<◌, ◌≤◌, slice_index, sym, ap, subst, ◌∙◌, arith}
-use Rattle.mk_propagate.specs.Shapes.{next_on_way}
+use Rattle.mk_plan.specs.Shapes.{next_on_way}
 use Rattle.mk_tree_engine.specs.inner.Marks.{AreMarkedUp, AreMarkedDown}
 use Rattle.mk_tree_engine.proofs.Marking.{earlier_up, earlier_down}
 use Rattle.mk_tree_engine.proofs.marks.mark_earlier.Goals as goal

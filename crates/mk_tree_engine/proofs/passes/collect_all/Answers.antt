@@ -1,5 +1,5 @@
 use Rattle.std.proofs.Common.{sym, subst}
-use Rattle.mk_propagate.specs.Shapes.{ShapeOf}
+use Rattle.mk_plan.specs.Shapes.{ShapeOf}
 use Rattle.mk_tree_engine.specs.inner.Marks.{marked}
 use Rattle.mk_tree_engine.specs.inner.Passes.{AreCollected, passed_up}
 use Rattle.mk_tree_engine.proofs.Steps.{both_passed}

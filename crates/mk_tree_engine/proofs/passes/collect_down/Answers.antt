@@ -1,5 +1,5 @@
 use Rattle.std.proofs.Common.{◌≡◌, ℕ, ◌+◌, ◌<◌, Bool, length, true, false, sym, ap, subst, ◌∙◌, arith}
-use Rattle.mk_propagate.specs.Shapes.{ShapeOf, IsClique}
+use Rattle.mk_plan.specs.Shapes.{ShapeOf, IsClique}
 use Rattle.mk_propagate.specs.Flows.{FlowOf}
 use Rattle.mk_tree_engine.specs.declared.marks.Marks.{Marks}
 use Rattle.mk_tree_engine.specs.inner.Marks.{marked}

@@ -1,5 +1,5 @@
 use Rattle.std.proofs.Common.{◌≡◌, ℕ, ◌<◌, sym, ap, subst, ◌∙◌}
-use Rattle.mk_propagate.specs.Shapes.{ShapeOf, IsClique, next_on_way}
+use Rattle.mk_plan.specs.Shapes.{ShapeOf, IsClique, next_on_way}
 use Rattle.mk_tree_engine.specs.inner.Marks.{marked}
 use Rattle.mk_tree_engine.specs.inner.Passes.{AreCollected, is_off_way, number_on_way}
 use Rattle.mk_tree_engine.proofs.Walking.{next_is_clique, way_shorter, walk_begins, walk_sends, walk_step, walk_ends}

@@ -1,4 +1,4 @@
-use Rattle.mk_propagate.specs.Shapes.{IsClique}
+use Rattle.mk_plan.specs.Shapes.{IsClique}
 use Rattle.mk_tree_engine.specs.inner.Marks.{marked}
 use Rattle.mk_tree_engine.specs.inner.Passes.{AreCollected, is_off_way, number_on_way}
 use Rattle.mk_tree_engine.proofs.passes.collect_from.Given as goal

@@ -1,7 +1,7 @@
 use Rattle.std.proofs.Common.{◌∙◌, length, sym}
 use Rattle.mk_sums.proofs.Hops.{hop_linked, ends}
 use Rattle.mk_tree.specs.Given.{link_of}
-use Rattle.mk_propagate.specs.Shapes.{next_on_way}
+use Rattle.mk_plan.specs.Shapes.{next_on_way}
 use Rattle.mk_tree_engine.proofs.passes.is_stale_towards.Goals as goal
 
 pub is_stale-requires-clause-apart : goal.is_stale-requires-clause-apart

@@ -1,5 +1,5 @@
 use Rattle.std.proofs.Common.{◌≡◌, ℕ, true, sym, ap, subst, ◌∙◌}
-use Rattle.mk_propagate.specs.Shapes.{ShapeOf, are_linked, next_on_way}
+use Rattle.mk_plan.specs.Shapes.{ShapeOf, are_linked, next_on_way}
 use Rattle.mk_tree_engine.specs.inner.Marks.{marked}
 use Rattle.mk_tree_engine.specs.inner.Passes.{IsMade}
 use Rattle.mk_tree_engine.proofs.Making.{made_already, made_anew}

@@ -3,7 +3,7 @@ use Rattle.mk_net.specs.Sets.{VarSet, is_member}
 use Rattle.mk_net.specs.Network.{Variable, sizes}
 use Rattle.mk_states.specs.OfNetwork.{IsPairOf}
 use Rattle.mk_tree.specs.Given.{GivenTree, clique_at}
-use Rattle.mk_propagate.specs.Shapes.{ShapeOf, IsClique}
+use Rattle.mk_plan.specs.Shapes.{ShapeOf, IsClique}
 use Rattle.mk_propagate.specs.Placings.{with_pair_in}
 use Rattle.mk_tree_trials.proofs.Ready.{into_after}
 use Rattle.mk_tree_trials.proofs.flows.know.Goals as goal

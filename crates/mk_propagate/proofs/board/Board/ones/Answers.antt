@@ -2,7 +2,7 @@ use Rattle.std.proofs.Common.{ℕ, ◌<◌, List, length, sym, ap, subst, ◌∙
 use Rattle.std.specs.Prelude.{slice_index_or}
 use Rattle.mk_scope.specs.Scopes.{ScopeOf}
 use Rattle.mk_table.specs.Lists.{IsOnes}
-use Rattle.mk_propagate.specs.Shapes.{no_scope}
+use Rattle.mk_plan.specs.Shapes.{no_scope}
 use Rattle.mk_propagate.specs.Flows.{no_table}
 use Rattle.mk_propagate.specs.inner.Boards.{board_of, IsBoard}
 use Rattle.mk_propagate.specs.inner.Ones.{IsStart}

@@ -3,8 +3,8 @@ use Rattle.std.proofs.Common.{◌≡◌, ℕ, ◌-◌, ◌<◌, ◌≤◌, true,
 use Rattle.std.proofs.Common.{subst, ◌∙◌}
 use Rattle.std.proofs.lemmas.List.{length-set}
 use Rattle.mk_table.specs.Tables.{TableOf}
-use Rattle.mk_propagate.specs.Shapes.{ShapeOf, IsClique, are_linked, clique_scope, core_scope}
-use Rattle.mk_propagate.specs.Shapes.{separator_between}
+use Rattle.mk_plan.specs.Shapes.{ShapeOf, IsClique, are_linked, clique_scope, core_scope}
+use Rattle.mk_plan.specs.Shapes.{separator_between}
 use Rattle.mk_propagate.specs.Placings.{Placing}
 use Rattle.mk_propagate.specs.Flows.{FlowOf, HasPlaced, IsRight, KeepsTables, AreRightBut, CanSend}
 use Rattle.mk_propagate.specs.Flows.{message_at, core_at, is_summed}

@@ -5,8 +5,8 @@ use Rattle.mk_net.specs.declared.words.Pair.{Pair}
 use Rattle.mk_enclose.specs.Enclosure.{widest_grade}
 use Rattle.mk_scope.specs.Scopes.{cells_in}
 use Rattle.mk_table.specs.Tables.{TableOf}
-use Rattle.mk_propagate.specs.Shapes.{ShapeOf, IsClique, clique_scope, core_scope, in_core}
-use Rattle.mk_propagate.specs.Shapes.{neighbours}
+use Rattle.mk_plan.specs.Shapes.{ShapeOf, IsClique, clique_scope, core_scope, in_core}
+use Rattle.mk_plan.specs.Shapes.{neighbours}
 use Rattle.mk_propagate.specs.Placings.{Placing}
 use Rattle.mk_propagate.specs.Flows.{FlowOf, HasPlaced, HasSums, KeepsTables, AreRightInto, CanRead}
 use Rattle.mk_propagate.specs.Flows.{IsReading, table_at}

@@ -4,7 +4,7 @@ use Rattle.std.proofs.lemmas.List.{length-set}
 use Rattle.mk_net.specs.Trades.{trade_ratio}
 use Rattle.mk_table.specs.Tables.{TableOf, HasRoom}
 use Rattle.mk_engine.specs.Meaning.{RatioOf}
-use Rattle.mk_propagate.specs.Shapes.{ShapeOf, IsShapeFor, IsClique, clique_scope, core_scope}
+use Rattle.mk_plan.specs.Shapes.{ShapeOf, IsShapeFor, IsClique, clique_scope, core_scope}
 use Rattle.mk_propagate.specs.Placings.{IsPlacedFactor, with_factor_in}
 use Rattle.mk_propagate.specs.Flows.{FlowOf, Places}
 use Rattle.mk_propagate.specs.inner.Boards.{BoardOf, table_of, core_of, with_core}

@@ -1,6 +1,6 @@
 use Rattle.std.proofs.Common.{◌≡◌, sym, ap, subst, ◌∙◌, arith}
 use Rattle.mk_tree.specs.Held.{IsHeldAt}
-use Rattle.mk_propagate.specs.Shapes.{ShapeOf}
+use Rattle.mk_plan.specs.Shapes.{ShapeOf}
 use Rattle.mk_propagate.specs.Flows.{counted_on}
 use Rattle.mk_tree_engine.specs.Engines.{MarkedFlow, ClearsTowards, stale_number}
 use Rattle.mk_tree_engine.specs.inner.Marks.{marked, IsMarked}

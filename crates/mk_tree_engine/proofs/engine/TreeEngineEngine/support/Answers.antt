@@ -3,7 +3,7 @@ use Rattle.mk_net.specs.Network.{Variable}
 use Rattle.mk_tree.specs.Given.{GivenTree}
 use Rattle.mk_tree.specs.Checked.{IsTreeOf}
 use Rattle.mk_engine.specs.Meaning.{SupportOf, with_factor}
-use Rattle.mk_propagate.specs.Shapes.{ShapeOf}
+use Rattle.mk_plan.specs.Shapes.{ShapeOf}
 use Rattle.mk_propagate.specs.Placings.{IsPlacedFactor, with_factor_in}
 use Rattle.mk_tree_engine.specs.Engines.{MarkedFlow, placing_of, factor_home}
 use Rattle.mk_tree_engine.specs.inner.Marks.{marked}

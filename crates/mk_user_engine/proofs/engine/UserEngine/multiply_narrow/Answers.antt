@@ -1,7 +1,7 @@
 use Rattle.std.proofs.Common.{◌≡◌, ap, ◌∙◌}
 use Rattle.std.proofs.lemmas.Bool.{both_ways}
 use Rattle.mk_net.specs.Trades.{trade_ratio}
-use Rattle.mk_propagate.specs.Shapes.{ShapeOf, clique_scope}
+use Rattle.mk_plan.specs.Shapes.{ShapeOf, clique_scope}
 use Rattle.mk_user_engine.proofs.Staying.{can_take}
 use Rattle.mk_user_engine.proofs.engine.UserEngine.multiply_narrow.Goals as goal
 

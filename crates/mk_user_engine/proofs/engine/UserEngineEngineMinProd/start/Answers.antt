@@ -1,7 +1,7 @@
 use Rattle.std.proofs.Common.{rules, ◌≡◌, ap, ◌∙◌, sym, subst}
 use Rattle.mk_tree.specs.Given.{GivenTree}
 use Rattle.mk_tree.specs.Checked.{IsTreeOf}
-use Rattle.mk_propagate.specs.Shapes.{ShapeOf, IsShapeFor}
+use Rattle.mk_plan.specs.Shapes.{ShapeOf, IsShapeFor}
 use Rattle.mk_user_engine.proofs.engine.UserEngineEngineMinProd.start.Goals as goal
 
 pub returns : goal.returns

@@ -1,5 +1,0 @@
-use Rattle.mk_propagate.specs.Shapes.{AreNextTo}
-use Rattle.mk_propagate.proofs.shape.next_to.Given as goal
-
-abbrev pub invariant-loop-passed : goal.invariant-loop-passed
-invariant-loop-passed l = AreNextTo l.tree l.to l.passed l.next.items
