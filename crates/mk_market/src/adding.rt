@@ -5,12 +5,13 @@ use crate::restoring::RestoreFault;
 use crate::stored::tells_addition;
 use crate::wording::has_text;
 use mk_addition::AddText;
+use mk_admission::{added_question, clique_set, refuse_add};
 use mk_assets::Assets;
 use mk_engine::Engine;
 use mk_file::MarketFile;
 use mk_history::AddedQuestion;
 use mk_net::NoMemory;
-use mk_record::{Journal, added_question, clique_set, refuse_add};
+use mk_record::Journal;
 use mk_replay::{assets_of_each, engine_after, rows_after};
 use mk_reply::{Refusal, Reply};
 use mk_semiring::{MinProd, SumProd};
@@ -55,8 +56,7 @@ impl<P: Engine<SumProd>, A: Engine<MinProd>> Market<P, A> {
         }
     }
 
-    /// A question is added. Words that no line could have are as good as no memory. It gives the
-    /// revision.
+    /// Adds a question and gives the revision. Words that no line could have count as no memory.
     fn add(&mut self, alloc: Global, add: &AddText) -> Result<u64, Refusal>
         requires prices { SuitsNext P.suits self.old (Add add.now) }
         requires assets { SuitsNext A.suits self.old (Add add.now) }

@@ -6,8 +6,3 @@ pub mod KnownVariables
 pub mod Gathering
 pub mod Refusing
 pub mod SpreadRefusals
-pub mod Finding
-pub mod Numbered
-pub mod AddedRows
-pub mod AddedCliques
-pub mod AddRefusals

@@ -2,4 +2,3 @@
 pub mod Counted
 pub mod Enrolled
 pub mod Gathered
-pub mod Placed

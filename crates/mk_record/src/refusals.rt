@@ -32,7 +32,7 @@ use mk_tree::Tree;
 const MAX_TRANSFER_BITS: u32 = 1_000;
 
 /// The most millionths to which a price may be moved.
-pub(crate) const MAX_SHARE: u32 = 999_999;
+pub const MAX_SHARE: u32 = 999_999;
 
 /// What `user` is refused for: a settlement, a user of the name, and as many users as a market holds.
 pub fn refuse_user<A: Engine<MinProd>>(
@@ -256,7 +256,7 @@ fn can_be_answered(
 }
 
 /// Refuses where a test passes.
-pub(crate) fn refuse_if(test: bool, why: Refusal) -> Result<(), Refusal>
+pub fn refuse_if(test: bool, why: Refusal) -> Result<(), Refusal>
     ensures { refusal_in result ≡ fault_if test why }
 {
     if test { Err(why) } else { Ok(()) }

@@ -34,7 +34,7 @@ use mk_reply::Refusal;
 use mk_semiring::MinProd;
 
 /// The sum of the shares of a whole distribution.
-pub(crate) const MILLION: u32 = 1_000_000;
+pub const MILLION: u32 = 1_000_000;
 
 /// What `bounds` and `position` are refused for by the record: a settlement, an unknown user, a
 /// variable that is unknown, a pair of the condition that is, a variable that occurs twice, one
@@ -197,7 +197,7 @@ fn one_for_each(net: &Network, variable: u32, to: &[u32]) -> Result<(), Refusal>
 }
 
 /// Each number is to be from a least to a most.
-pub(crate) fn all_in_range(numbers: &[u32], least: u32, most: u32) -> Result<(), Refusal>
+pub fn all_in_range(numbers: &[u32], least: u32, most: u32) -> Result<(), Refusal>
     ensures { refusal_in result ≡ rules.ranges least most numbers.now }
 {
     for number in numbers {
@@ -210,7 +210,7 @@ pub(crate) fn all_in_range(numbers: &[u32], least: u32, most: u32) -> Result<(),
 }
 
 /// The numbers are to make a million.
-pub(crate) fn is_million(to: &[u32]) -> Result<(), Refusal>
+pub fn is_million(to: &[u32]) -> Result<(), Refusal>
     requires { sum to.now < 2 ^ 32 }
     ensures { refusal_in result ≡ rules.sums to.now }
 {

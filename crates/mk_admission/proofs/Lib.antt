@@ -1,0 +1,5 @@
+pub mod Finding
+pub mod Numbered
+pub mod AddedRows
+pub mod AddedCliques
+pub mod AddRefusals

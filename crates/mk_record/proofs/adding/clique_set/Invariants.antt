@@ -1,5 +1,0 @@
-use Rattle.mk_record.proofs.Numbered.{IsSetTo}
-use Rattle.mk_record.proofs.adding.clique_set.Given as goal
-
-abbrev pub invariant-loop-variable : goal.invariant-loop-variable
-invariant-loop-variable l = IsSetTo l.clique l.variable-index l.set
