@@ -51,7 +51,7 @@ SECTIONS = [
         "mk_net/src/fault.rt", "mk_net/specs/Checked.antt", "mk_file/specs/Cliques.antt", "mk_tree/src/fault.rt", "mk_tree/specs/Given.antt",
         "mk_tree/specs/Tests.antt", "mk_net/specs/Sets.antt"]),
     ("The sample", [
-        "daggre/specs/Sampled.antt", "mk_session/src/counts.rt", "mk_session/specs/Tally.antt", "mk_make/specs/Sample.antt", "mk_make/specs/Lines.antt"]),
+        "daggre/specs/Sampled.antt", "mk_tally/src/counts.rt", "mk_tally/specs/Tally.antt", "mk_make/specs/Sample.antt", "mk_make/specs/Lines.antt"]),
     ("The outside", [
         "mk_io/src/outside.rt", "mk_io/specs/Outside.antt", "mk_io/src/standard.rt", "mk_disk/src/disk.rt", "mk_disk/specs/Disk.antt",
         "mk_disk/src/standard.rt", "mk_disk/specs/Standard.antt"]),

@@ -7,9 +7,9 @@ use Rattle.mk_file.specs.declared.fault.FileFault.{FileFault}
 use Rattle.mk_file.specs.File.{file_of}
 use Rattle.mk_make.specs.Sample.{sample_file, sample_commands}
 use Rattle.mk_make.proofs.LengthLemmas.{commands_length}
-use Rattle.mk_session.specs.declared.counts.TallyFault.TheVariants.{TooMany}
-use Rattle.mk_session.specs.Tally.{TallyEnds}
 use Rattle.mk_session.specs.Complete.{AreWithin}
+use Rattle.mk_tally.specs.declared.counts.TallyFault.TheVariants.{TooMany}
+use Rattle.mk_tally.specs.Tally.{TallyEnds}
 use Rattle.daggre.specs.Words.{max_sample}
 
 one_part : (ends : Bool) (b : ℕ) (rest : List (List ℕ))

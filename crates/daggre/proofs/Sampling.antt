@@ -8,11 +8,11 @@ use Rattle.mk_file.specs.declared.fault.FileFault.{FileFault}
 use Rattle.mk_file.specs.declared.fault.FileFault.TheVariants.{Memory as FileMemory}
 use Rattle.mk_file.specs.File.{file_of}
 use Rattle.mk_make.specs.Sample.{sample_file, sample_commands}
-use Rattle.mk_session.specs.declared.counts.Tally.{Tally}
-use Rattle.mk_session.specs.declared.counts.TallyFault.TheVariants.{Market as Refuses}
 use Rattle.mk_session.specs.Texts.{fault_line}
-use Rattle.mk_session.specs.Tally.{TallyEnds}
 use Rattle.mk_session.specs.Outcome.{Adds}
+use Rattle.mk_tally.specs.declared.counts.Tally.{Tally}
+use Rattle.mk_tally.specs.declared.counts.TallyFault.TheVariants.{Market as Refuses}
+use Rattle.mk_tally.specs.Tally.{TallyEnds}
 use Rattle.daggre.specs.Sampled.{sample_text, IsSampled, IsSampleRefused, EndsSample}
 
 -- a count was made: the sample's file is accepted

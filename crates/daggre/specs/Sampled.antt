@@ -9,11 +9,11 @@ use Rattle.mk_file.specs.declared.fault.FileFault.{FileFault}
 use Rattle.mk_file.specs.File.{file_of}
 use Rattle.mk_reply.specs.declared.reply.Reply.{Reply}
 use Rattle.mk_make.specs.Sample.{sample_file, sample_commands}
-use Rattle.mk_session.specs.declared.counts.Tally.{Tally}
 use Rattle.mk_session.specs.Texts.{as_line, reply_line, fault_line}
-use Rattle.mk_session.specs.Tally.{TallyEnds}
 use Rattle.mk_session.specs.Complete.{AreWithin}
 use Rattle.mk_session.specs.Outcome.{IsFrontOf}
+use Rattle.mk_tally.specs.declared.counts.Tally.{Tally}
+use Rattle.mk_tally.specs.Tally.{TallyEnds}
 use Rattle.daggre.specs.Words.{max_sample}
 
 -- the line that names the sample, and the line of the counts

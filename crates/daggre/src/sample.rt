@@ -4,8 +4,8 @@ ghost use Rattle.std.specs.Prelude.{◌≡◌, ◌≢◌, ℕ, ◌≤◌, OnOk, 
 ghost use Rattle.mk_io.specs.Outside.{HasCause, AddsFront, append_known};
 ghost use Rattle.mk_make.specs.Sample.{sample_file, sample_commands};
 ghost use Rattle.mk_file.specs.File.{file_of};
-ghost use Rattle.mk_session.specs.Tally.{TallyEnds};
 ghost use Rattle.mk_session.specs.Outcome.{Adds, HasCauses};
+ghost use Rattle.mk_tally.specs.Tally.{TallyEnds};
 ghost use Rattle.daggre.specs.Words.{max_sample};
 ghost use Rattle.daggre.specs.Sampled.{count_lines, last_line, sample_text, EndsSample};
 ghost use Rattle.daggre.specs.Sampled.{SamplesAreWithin};
@@ -15,7 +15,8 @@ use mk_io::{Sink, SinkFailed, Status, write_all};
 use mk_make::sample;
 use mk_net::NoMemory;
 use mk_reply::Reply;
-use mk_session::{LineBuffer, Tally, TallyFault, print_fault_line, print_reply_line, tally};
+use mk_session::{LineBuffer, print_fault_line, print_reply_line};
+use mk_tally::{Tally, TallyFault, tally};
 use mk_text::put_number;
 use std::alloc::Global;
 

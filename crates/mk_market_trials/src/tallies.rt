@@ -3,7 +3,8 @@
 use crate::coin::COIN;
 use mk_file::FileFault;
 use mk_io::{MemorySink, NamedFile, QuietInputs, QuietSink, Sink, Status};
-use mk_session::{LineBuffer, Tally, TallyFault, print_reply_line, serve, serve_quiet, tally};
+use mk_session::{LineBuffer, print_reply_line, serve, serve_quiet};
+use mk_tally::{Tally, TallyFault, tally};
 use std::alloc::{AllocError, Global};
 use std::process::Abort;
 use std::test::Fail;

@@ -12,5 +12,4 @@ pub mod Turns
 pub mod Going
 pub mod Serving
 pub mod Completing
-pub mod Counted
 pub mod Handing

@@ -7,6 +7,5 @@ pub mod Priced
 pub mod Complete
 pub mod Begins
 pub mod Left
-pub mod Tally
 pub mod Laws
 pub mod inner

@@ -3,4 +3,3 @@ pub mod Loading
 pub mod Progress
 pub mod Telling
 pub mod Keeping
-pub mod Counting

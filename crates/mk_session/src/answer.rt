@@ -13,7 +13,7 @@ ghost use Rattle.mk_exact.specs.Market.{Market};
 ghost use Rattle.mk_rules.specs.Transcript.{Standing};
 ghost use Rattle.mk_market.specs.Trading.{IsAt};
 ghost use Rattle.mk_command.specs.Commands.{command_of};
-ghost use Rattle.mk_session.specs.Transcript.{Start, started, AreReplied, AreAnswered};
+ghost use Rattle.mk_session.specs.Transcript.{Start, started, AreAnswered};
 ghost use Rattle.mk_session.specs.Begins.{CanBegin};
 ghost use Rattle.mk_session.specs.Outcome.{IsServed, IsRunFrom, HasKeepCauses, EndsRun};
 ghost use Rattle.mk_session.specs.Priced.{IsPriced};
@@ -40,28 +40,6 @@ pub fn is_blank(line: &[u8]) -> bool
     ensures { result ≡ list_all (λ b. b == 32) line.now }
 {
     line.iter().all(|byte| *byte == b' ')
-}
-
-/// The reply to a line that is not too long and not blank.
-pub(crate) fn reply_to(
-    alloc: Global,
-    market: &mut TreeMarket,
-    line: &[u8],
-    words: &mut Words,
-) -> Reply
-    requires { list_all (λ b. b == 32) line.now ≡ false }
-    ensures market { (start : Market) → IsAt start market.old → IsAt start market.new }
-    ensures replied { (start : Market) → IsAt start market.old →
-        IsSoundAt start market.old.standing →
-        AreReplied start market.old.standing (text line.now ∷ [])
-        market.new.standing (result ∷ []) }
-{
-    match read_command(line, words) {
-        Err(_) => Reply::Refused {
-            why: Refusal::Syntax,
-        },
-        Ok(command) => market.apply(alloc, &command),
-    }
 }
 
 /// Puts the line of the reply to a line that is not too long and not blank into `print`, in place

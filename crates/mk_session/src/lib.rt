@@ -3,8 +3,6 @@
 
 mod answer;
 mod change;
-mod counting;
-mod counts;
 mod laws;
 mod market;
 mod print;
@@ -13,8 +11,6 @@ mod run;
 mod waiting;
 
 pub use answer::{Kept, is_blank, print_plain_price, serve_from};
-pub use counting::tally;
-pub use counts::{Tally, TallyFault};
 pub use laws::ends_safely;
 pub use market::{TreeMarket, open};
 pub use print::{LineBuffer, print_fault_line, print_reply_line};

@@ -11,11 +11,11 @@ use Rattle.mk_reply.specs.declared.reply.Reply.TheVariants.{Refused}
 use Rattle.mk_rules.specs.Transcript.{Standing, opening}
 use Rattle.mk_rules.specs.Standings.{IsMarket}
 use Rattle.mk_market.specs.Trading.{Trading, IsAt}
-use Rattle.mk_session.specs.declared.counts.Tally.{Tally}
-use Rattle.mk_session.specs.declared.counts.TallyFault.{TallyFault}
 use Rattle.mk_session.specs.Transcript.{AreReplied}
-use Rattle.mk_session.specs.Tally.{IsRemembered, AreCounted}
 use Rattle.mk_session.specs.inner.Progress.{IsPlaced, IsSoundAt}
+use Rattle.mk_tally.specs.declared.counts.Tally.{Tally}
+use Rattle.mk_tally.specs.declared.counts.TallyFault.{TallyFault}
+use Rattle.mk_tally.specs.Tally.{IsRemembered, AreCounted}
 
 abbrev pub uncounted : Tally
 uncounted = record { replies = 0; trades = 0; refused = 0; last = None }

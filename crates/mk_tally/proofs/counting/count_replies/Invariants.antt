@@ -1,7 +1,7 @@
 use Rattle.std.proofs.Common.{◌-◌}
 use Rattle.mk_io.specs.Stream.{max_stream_lines}
-use Rattle.mk_session.specs.inner.Counting.{IsCounting}
-use Rattle.mk_session.proofs.counting.count_replies.Given as goal
+use Rattle.mk_tally.specs.inner.Counting.{IsCounting}
+use Rattle.mk_tally.proofs.counting.count_replies.Given as goal
 
 abbrev pub invariant-loop-ended : goal.invariant-loop-ended
 invariant-loop-ended l = IsCounting l.fn.market.market l.market l.fn.commands.items l.lines

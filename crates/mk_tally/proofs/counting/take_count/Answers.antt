@@ -3,8 +3,8 @@ use Rattle.mk_io.specs.Stream.{text, long}
 use Rattle.mk_io.specs.declared.lines.Next.TheVariants.{Line, Long, TooMany}
 use Rattle.mk_market.specs.Trading.{IsAt}
 use Rattle.mk_session.proofs.Endings.{fresh_answer, none_stays, none_left}
-use Rattle.mk_session.proofs.Counted.{counts_on, counted_so_far_next, tally_of, not_within}
-use Rattle.mk_session.proofs.counting.take_count.Goals as goal
+use Rattle.mk_tally.proofs.Counted.{counts_on, counted_so_far_next, tally_of, not_within}
+use Rattle.mk_tally.proofs.counting.take_count.Goals as goal
 
 pub returns-in-Line-clause-so_far : goal.returns-in-Line-clause-so_far
 returns-in-Line-clause-so_far c =

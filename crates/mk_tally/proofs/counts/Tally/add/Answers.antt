@@ -1,6 +1,6 @@
 use Rattle.std.proofs.Common.{ℕ, ◌+◌, refl, ap, ◌∙◌}
-use Rattle.mk_session.proofs.Counted.{counted_more, test_number, number_of_test}
-use Rattle.mk_session.proofs.counts.Tally.add.Goals as goal
+use Rattle.mk_tally.proofs.Counted.{counted_more, test_number, number_of_test}
+use Rattle.mk_tally.proofs.counts.Tally.add.Goals as goal
 
 pub returns-clause-counts : goal.returns-clause-counts
 returns-clause-counts c = λ earlier counts.

@@ -15,21 +15,21 @@ use Rattle.mk_reply.specs.declared.reply.Reply.{Reply}
 use Rattle.mk_rules.specs.Standings.{IsMarket}
 use Rattle.mk_rules.specs.Transcript.{Standing, opening}
 use Rattle.mk_market.specs.Trading.{Trading}
-use Rattle.mk_session.specs.declared.counts.Tally.{Tally}
-use Rattle.mk_session.specs.declared.counts.TallyFault.{TallyFault}
-use Rattle.mk_session.specs.declared.counts.TallyFault.TheVariants.{Memory}
 use Rattle.mk_session.specs.Transcript.{from_opening, AreReplied}
 use Rattle.mk_session.specs.Complete.{AreWithin}
-use Rattle.mk_session.specs.Tally.{is_trade, is_refusal, last_reply, IsRemembered, AreCounted}
-use Rattle.mk_session.specs.Tally.{IsTally}
-use Rattle.mk_session.specs.inner.Counting.{uncounted, is_want, IsWithin, IsCounted, CountsLine}
-use Rattle.mk_session.specs.inner.Counting.{IsCountedSoFar, IsCounting}
 use Rattle.mk_session.proofs.Present.{at_first}
 use Rattle.mk_session.proofs.Answering.{no_more, none_replied, then_replied, sound_so_far}
 use Rattle.mk_session.proofs.Answering.{allowed_run_of, opening_begins}
 use Rattle.mk_session.proofs.Underway.{are_whole, placed_next}
 use Rattle.mk_session.proofs.Endings.{past_of, risen}
 use Rattle.mk_session.proofs.Completing.{past_limits, none_rose, none_within_stream}
+use Rattle.mk_tally.specs.declared.counts.Tally.{Tally}
+use Rattle.mk_tally.specs.declared.counts.TallyFault.{TallyFault}
+use Rattle.mk_tally.specs.declared.counts.TallyFault.TheVariants.{Memory}
+use Rattle.mk_tally.specs.Tally.{is_trade, is_refusal, last_reply, IsRemembered, AreCounted}
+use Rattle.mk_tally.specs.Tally.{IsTally}
+use Rattle.mk_tally.specs.inner.Counting.{uncounted, is_want, IsWithin, IsCounted, CountsLine}
+use Rattle.mk_tally.specs.inner.Counting.{IsCountedSoFar, IsCounting}
 
 last_more : (replies : List Reply) (reply : Reply) → last_reply (replies ++ reply ∷ []) ≡ Some reply
 last_more [] reply = refl

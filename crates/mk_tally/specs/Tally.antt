@@ -10,12 +10,12 @@ use Rattle.mk_reply.specs.declared.refusal.Refusal.TheVariants.{Memory as OutOfM
 use Rattle.mk_reply.specs.declared.reply.Reply.{Reply}
 use Rattle.mk_reply.specs.declared.reply.Reply.TheVariants.{Traded, Spreaded, Refused}
 use Rattle.mk_rules.specs.Transcript.{Standing}
-use Rattle.mk_session.specs.declared.counts.Tally.{Tally}
-use Rattle.mk_session.specs.declared.counts.TallyFault.{TallyFault}
-use Rattle.mk_session.specs.declared.counts.TallyFault.TheVariants.{Market as Refuses, TooMany}
-use Rattle.mk_session.specs.declared.counts.TallyFault.TheVariants.{Memory}
 use Rattle.mk_session.specs.Transcript.{from_opening, IsAllowedRun}
 use Rattle.mk_session.specs.Complete.{AreWithin}
+use Rattle.mk_tally.specs.declared.counts.Tally.{Tally}
+use Rattle.mk_tally.specs.declared.counts.TallyFault.{TallyFault}
+use Rattle.mk_tally.specs.declared.counts.TallyFault.TheVariants.{Market as Refuses, TooMany}
+use Rattle.mk_tally.specs.declared.counts.TallyFault.TheVariants.{Memory}
 
 -- an edit of a question or of a whole distribution was made
 abbrev pub is_trade : Reply → Bool

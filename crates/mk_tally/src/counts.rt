@@ -2,8 +2,8 @@
 
 ghost use Rattle.std.specs.Prelude.{◌≡◌, ◌+◌, List, [], ◌∷◌, ◌++◌};
 ghost use Rattle.mk_io.specs.Stream.{max_stream_lines};
-ghost use Rattle.mk_session.specs.Tally.{is_trade, is_refusal, AreCounted};
-ghost use Rattle.mk_session.specs.inner.Counting.{uncounted, IsWithin, HasRoom};
+ghost use Rattle.mk_tally.specs.Tally.{is_trade, is_refusal, AreCounted};
+ghost use Rattle.mk_tally.specs.inner.Counting.{uncounted, IsWithin, HasRoom};
 
 use mk_file::FileFault;
 use mk_reply::Reply;

@@ -1,10 +1,10 @@
 use Rattle.std.proofs.Common.{ap, sym, subst, Ok, Result}
 use Rattle.mk_io.specs.Quiet.{QuietIn}
-use Rattle.mk_session.specs.declared.counts.Tally.{Tally}
-use Rattle.mk_session.specs.declared.counts.TallyFault.{TallyFault}
-use Rattle.mk_session.specs.Tally.{TallyEnds}
-use Rattle.mk_session.proofs.Counted.{counting_at_start}
-use Rattle.mk_session.proofs.counting.count_replies.Goals as goal
+use Rattle.mk_tally.specs.declared.counts.Tally.{Tally}
+use Rattle.mk_tally.specs.declared.counts.TallyFault.{TallyFault}
+use Rattle.mk_tally.specs.Tally.{TallyEnds}
+use Rattle.mk_tally.proofs.Counted.{counting_at_start}
+use Rattle.mk_tally.proofs.counting.count_replies.Goals as goal
 
 pub loop-ended-init : goal.loop-ended-init
 loop-ended-init c = counting_at_start c.args.market.now c.requires.is_market

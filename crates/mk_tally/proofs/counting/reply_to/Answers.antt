@@ -7,7 +7,7 @@ use Rattle.mk_rules.specs.Transcript.{Standing, OfCommand, NoCommand}
 use Rattle.mk_session.specs.Transcript.{AreReplied}
 use Rattle.mk_session.proofs.Answering.{one_replied}
 use Rattle.mk_session.proofs.Present.{allowed_at, next_at, at_next}
-use Rattle.mk_session.proofs.answer.reply_to.Goals as goal
+use Rattle.mk_tally.proofs.counting.reply_to.Goals as goal
 
 pub returns-in-Err-clause-replied : goal.returns-in-Err-clause-replied
 returns-in-Err-clause-replied c = λ start here sound.

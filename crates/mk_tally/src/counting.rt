@@ -1,7 +1,9 @@
 //! A run whose replies are counted.
 
-ghost use Rattle.std.specs.Prelude.{◌≡◌, ◌≢◌, ◌+◌, ◌<◌, ◌≤◌, ℕ, List, [], ◌∷◌, ◌++◌, Some, None};
-ghost use Rattle.std.specs.Prelude.{Ok, Err, Result, OnOk, IfNone, IfSome, MatchResult};
+ghost use Rattle.std.specs.Prelude.{◌≡◌, ◌≢◌, ◌+◌, ◌<◌, ◌≤◌, ◌==◌, ℕ, List, [], ◌∷◌, ◌++◌};
+ghost use Rattle.std.specs.Prelude.{Some, None, Ok, Err, Result, OnOk, IfNone, IfSome, MatchResult};
+ghost use Rattle.std.specs.Prelude.{false};
+ghost use Rattle.std.specs.List.{list_all};
 ghost use Rattle.mk_io.specs.Stream.{text, long, max_stream_lines};
 ghost use Rattle.mk_io.specs.Cutting.{GoesOn};
 ghost use Rattle.mk_tree.specs.Checked.{IsTreeOf};
@@ -11,25 +13,26 @@ ghost use Rattle.mk_exact.specs.Market.{Market};
 ghost use Rattle.mk_rules.specs.Standings.{IsMarket};
 ghost use Rattle.mk_rules.specs.Transcript.{Standing, opening};
 ghost use Rattle.mk_market.specs.Trading.{IsAt};
-ghost use Rattle.mk_session.specs.Tally.{TallyEnds};
-ghost use Rattle.mk_session.specs.inner.Counting.{is_want, IsWithin, HasRoom, CountsLine};
-ghost use Rattle.mk_session.specs.inner.Counting.{IsCountedSoFar, counted_as};
+ghost use Rattle.mk_session.specs.Transcript.{AreReplied};
+ghost use Rattle.mk_session.specs.inner.Progress.{IsSoundAt};
+ghost use Rattle.mk_tally.specs.Tally.{TallyEnds};
+ghost use Rattle.mk_tally.specs.inner.Counting.{is_want, IsWithin, HasRoom, CountsLine};
+ghost use Rattle.mk_tally.specs.inner.Counting.{IsCountedSoFar, counted_as};
 
-use crate::answer::{is_blank, reply_to};
 use crate::counts::{Tally, TallyFault};
-use crate::market::{TreeMarket, open};
-use mk_command::Words;
+use mk_command::{Words, read_command};
 use mk_file::{FileFault, MarketFile, read_market};
 use mk_io::{Lines, Next, QuietInputs};
 use mk_net::NoMemory;
 use mk_reply::{Refusal, Reply};
+use mk_session::{TreeMarket, is_blank, open};
 use std::alloc::Global;
 
 /// How many bytes of the commands are read at once.
 const PIECE: usize = 4096;
 
-/// Counts the replies of the market of this file to these commands, as `serve` makes them: one for
-/// each line that is not blank.
+/// Counts the replies of the market of this file to these commands, as `mk_session::serve` makes
+/// them: one for each line that is not blank.
 ///
 /// `TallyFault::Market` and `TallyFault::TooMany` name what the file or the commands have.
 /// `TallyFault::Memory` comes where memory is wanting, also where the market would reply so.
@@ -175,6 +178,23 @@ fn count_text(
     }
     tally.add(reply);
     Ok(())
+}
+
+/// The reply to a line that is not too long and not blank.
+fn reply_to(alloc: Global, market: &mut TreeMarket, line: &[u8], words: &mut Words) -> Reply
+    requires { list_all (λ b. b == 32) line.now ≡ false }
+    ensures market { (start : Market) → IsAt start market.old → IsAt start market.new }
+    ensures replied { (start : Market) → IsAt start market.old →
+        IsSoundAt start market.old.standing →
+        AreReplied start market.old.standing (text line.now ∷ [])
+        market.new.standing (result ∷ []) }
+{
+    match read_command(line, words) {
+        Err(_) => Reply::Refused {
+            why: Refusal::Syntax,
+        },
+        Ok(command) => market.apply(alloc, &command),
+    }
 }
 
 /// Counts the reply to a line that is too long, which is that of any market.

@@ -1,10 +1,10 @@
 use Rattle.std.proofs.Common.{[], ◌∷◌, refl, sym, ◌∙◌}
 use Rattle.std.proofs.lemmas.List.Elements.{All-nil}
 use Rattle.mk_io.specs.Stream.{text}
-use Rattle.mk_session.specs.Tally.{IsRemembered}
 use Rattle.mk_session.proofs.Answering.{blank_replied}
-use Rattle.mk_session.proofs.Counted.{counts_none, remembered_one}
-use Rattle.mk_session.proofs.counting.count_text.Goals as goal
+use Rattle.mk_tally.specs.Tally.{IsRemembered}
+use Rattle.mk_tally.proofs.Counted.{counts_none, remembered_one}
+use Rattle.mk_tally.proofs.counting.count_text.Goals as goal
 
 pub returns-then-is_blank-clause-counted : goal.returns-then-is_blank-clause-counted
 returns-then-is_blank-clause-counted c = λ start here. record {
