@@ -1,9 +1,7 @@
-//! Trials of numbers: enclosures, cells, semirings, cash and quotes, over the public calls of their crates: a crate of its own, since a
-//! crate with tests is proved twice.
+//! Trials of numbers: enclosures, cells and semirings, over the public calls of their crates: a
+//! crate of its own, since a crate with tests is proved twice.
 #![tactic(auto)]
 
-#[cfg(test)]
-mod cash;
 #[cfg(test)]
 mod cells;
 #[cfg(test)]
@@ -11,10 +9,6 @@ mod enclosures;
 #[cfg(test)]
 mod products;
 #[cfg(test)]
-mod quotes;
-#[cfg(test)]
 mod scaled;
 #[cfg(test)]
 mod semirings;
-#[cfg(test)]
-mod spreads;

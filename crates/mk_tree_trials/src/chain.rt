@@ -1,8 +1,7 @@
-//! Trials on one chain, whose file is read once: its tree, its flows, and how many messages an engine makes.
+//! Trials on one chain, whose file is read once: its tree and its flows.
 
 ghost use Rattle.mk_tree.specs.Checked.{IsTreeOf};
 
-use crate::engines::check_stale;
 use crate::fixtures::{CHAIN, read};
 use crate::flows::{check_minima, check_sums};
 use crate::trees::check_copy;
@@ -16,8 +15,7 @@ fn check_all(rt: &impl Abort, alloc: Global, file: &MarketFile) -> Result<(), Fa
 {
     check_copy(rt, alloc, &file.tree)?;
     check_sums(rt, alloc, file)?;
-    check_minima(rt, alloc, file)?;
-    check_stale(rt, alloc, file)
+    check_minima(rt, alloc, file)
 }
 
 #[test]

@@ -1,12 +1,12 @@
 //! What the trials share: networks with their trees, from market files, and what trees and values have to be.
 
-ghost use Rattle.std.specs.Prelude.{◌≡◌, ℕ, ◌+◌, ◌<◌, ◌≤◌, [], ◌∷◌, length, slice_index, true, IfOk};
+ghost use Rattle.std.specs.Prelude.{◌≡◌, ℕ, ◌+◌, ◌<◌, ◌≤◌, length, slice_index, true, IfOk};
 ghost use Rattle.mk_net.specs.Sets.{is_member};
 ghost use Rattle.mk_tree.specs.Given.{AreOfNetwork};
 ghost use Rattle.mk_tree.specs.Checked.{IsTreeOf};
 
 use mk_file::{MarketFile, read_market};
-use mk_net::{Event, Network, Pair, VarSet};
+use mk_net::{Network, VarSet};
 use mk_semiring::Held;
 use std::alloc::Global;
 use std::process::Abort;
@@ -51,9 +51,9 @@ pub(crate) fn expect_links(rt: &impl Abort, links: &[u32])
     }
 }
 
-pub(crate) fn all_variables(net: &Network) -> VarSet
-    ensures all { (x : ℕ) → x < length net.now → is_member result x ≡ true }
-    ensures no_other { (x : ℕ) → is_member result x ≡ true → x < length net.now }
+/// The variables of the network, and no other.
+fn all_variables(net: &Network) -> VarSet
+    ensures { (x : ℕ) → is_member result x ≡ true → x < length net.now }
 {
     let mut all = VarSet::empty();
     for variable in 0..net.variables() {
@@ -72,25 +72,12 @@ pub(crate) fn expect_of_network(rt: &impl Abort, net: &Network, cliques: &[VarSe
     }
 }
 
-pub(crate) fn only(rt: &impl Abort, pair: Pair) -> Event
-    ensures { result ≡ pair ∷ [] }
-{
-    Event::empty().with(pair).expect(rt, "a pair")
-}
-
-/// Stops unless the value is a mantissa times a power of two, exactly.
-pub(crate) fn check_exact(rt: &impl Abort, held: &Held, mantissa: u64, exponent: u64) {
-    match held {
-        Held::Absent => assert!(rt; mantissa == 0),
-        Held::Present(enclosure) => {
-            let (low, high) = (enclosure.lo(), enclosure.hi());
-            assert!(rt; low.mantissa() == mantissa && low.exponent() == exponent);
-            assert!(rt; high.mantissa() == mantissa && high.exponent() == exponent);
-        }
-    }
-}
-
 /// Stops unless the value is this number, exactly.
 pub(crate) fn check(rt: &impl Abort, held: &Held, n: u64) {
-    check_exact(rt, held, n, 0)
+    let Held::Present(found) = held else {
+        assert!(rt; n == 0);
+        return;
+    };
+    assert!(rt; (found.lo().mantissa(), found.lo().exponent()) == (n, 0));
+    assert!(rt; (found.hi().mantissa(), found.hi().exponent()) == (n, 0));
 }

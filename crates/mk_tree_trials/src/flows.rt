@@ -11,7 +11,7 @@ ghost use Rattle.mk_tree.specs.Tests.{holds_family};
 ghost use Rattle.mk_plan.specs.Shapes.{IsShapeFor, IsClique};
 ghost use Rattle.mk_tree_trials.specs.Placed.{HasSome, IsCollected, IsReady, KeepsReady};
 
-use crate::fixtures::{check, only};
+use crate::fixtures::check;
 use mk_file::MarketFile;
 use mk_net::{Event, Network, NoMemory, Pair, Question, Ratio, VarSet};
 use mk_plan::Shape;
@@ -51,7 +51,7 @@ fn holds_family(net: &Network, tree: &Tree, clique: u32, variable: u32) -> bool
 }
 
 /// Whether a clique holds each variable of an event.
-pub(crate) fn holds_event(tree: &Tree, clique: u32, event: &Event) -> bool
+fn holds_event(tree: &Tree, clique: u32, event: &Event) -> bool
     requires { IsClique tree.now clique }
     ensures { result ≡ holds_event event.now (clique_at tree.now clique) }
 {
@@ -183,7 +183,7 @@ fn in_first<R: Semiring<Value = Held>>(
 )
     requires { HasSome R.plus_of flow.old net.now 0 }
 {
-    let up = only(rt, B_UP);
+    let up = Event::empty().with(B_UP).expect(rt, "a pair");
     place(rt, flow, 1, net, 0, 0);
     around(rt, flow, 1, &up, (numbers[0], numbers[1]));
     again(rt, flow, 1, &up, numbers[2]);

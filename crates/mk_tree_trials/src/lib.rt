@@ -1,15 +1,9 @@
-//! Trials of trees, flows and engines, and of a plain walk over all states, over their public
-//! calls: a crate of its own, since a crate with tests is proved twice.
+//! Trials of trees and flows, and of a plain walk over all states, over their public calls: a crate
+//! of its own, since a crate with tests is proved twice.
 #![tactic(auto)]
 
 #[cfg(test)]
-mod both;
-#[cfg(test)]
 mod chain;
-#[cfg(test)]
-mod edits;
-#[cfg(test)]
-mod engines;
 #[cfg(test)]
 mod fixtures;
 #[cfg(test)]
@@ -18,5 +12,3 @@ mod flows;
 mod trees;
 #[cfg(test)]
 mod walks;
-#[cfg(test)]
-mod weather;

@@ -1,5 +1,0 @@
-use Rattle.mk_tree_trials.specs.Used.{IsInUse}
-use Rattle.mk_tree_trials.proofs.both.check_all.Given as goal
-
-abbrev pub invariant-loop-about : goal.invariant-loop-about
-invariant-loop-about g l = IsInUse g.E.Engine.stands_for l.engine l.comparison.file.now l.before
