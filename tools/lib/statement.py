@@ -22,7 +22,7 @@ SECTIONS = [
         "mk_session/specs/Left.antt", "mk_journal/specs/Market.antt", "mk_restore/specs/Restoring.antt", "mk_journal/specs/Store.antt"]),
     ("The audit of a transcript", [
         "mk_audit/specs/AuditOutcome.antt", "mk_audit/src/verdict.rt", "mk_audit/specs/Verdicts.antt", "mk_verify/specs/Clear.antt",
-        "mk_evidence/specs/Grades.antt",
+        "mk_judge_quotes/specs/Clear.antt", "mk_evidence/specs/Grades.antt",
         "mk_judge/specs/Compared.antt", "mk_judge/specs/Prices.antt", "mk_judge_points/specs/Cash.antt", "mk_judge_points/specs/Losses.antt",
         "mk_judge/specs/Limits.antt", "mk_scaled/specs/Near.antt"]),
     ("The transcript", [

@@ -19,7 +19,7 @@ use Rattle.mk_session.proofs.Answering.{no_more, none_replied, opening_begins, a
 use Rattle.mk_session.proofs.Underway.{are_whole}
 use Rattle.mk_session.proofs.Endings.{past_of}
 use Rattle.mk_session.proofs.Completing.{past_limits, none_within_stream}
-use Rattle.mk_verify.specs.Known.{IsKnown}
+use Rattle.mk_known.specs.Known.{IsKnown}
 use Rattle.mk_audit.specs.declared.verdict.Verdict.{Verdict}
 use Rattle.mk_audit.specs.declared.verdict.Verdict.TheVariants.{Yes, No, Unsure}
 use Rattle.mk_audit.specs.declared.front.Front.{Front}

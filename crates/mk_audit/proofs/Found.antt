@@ -34,7 +34,7 @@ use Rattle.mk_session.specs.Outcome.{IsFrontOf}
 use Rattle.mk_session.specs.Priced.{IsPriced}
 use Rattle.mk_session.proofs.Answering.{no_more}
 use Rattle.mk_verify.specs.Clear.{IsOpen}
-use Rattle.mk_verify.specs.Known.{Knowledge, IsKnown, standing_with}
+use Rattle.mk_known.specs.Known.{Knowledge, IsKnown, standing_with}
 use Rattle.mk_audit.specs.declared.verdict.Verdict.{Verdict}
 use Rattle.mk_audit.specs.declared.verdict.Verdict.TheVariants.{Yes, No, Unsure}
 use Rattle.mk_audit.specs.declared.verdict.AuditFault.{AuditFault}

@@ -20,8 +20,8 @@ use crate::verdict::{AuditFault, Verdict};
 use mk_command::Words;
 use mk_file::MarketFile;
 use mk_io::{Inputs, Lines, Next};
+use mk_known::Known;
 use mk_session::{LineBuffer, TreeMarket, open};
-use mk_verify::Known;
 use std::alloc::Global;
 
 /// Audits the transcript of a market's commands: holds each of its lines against what the market

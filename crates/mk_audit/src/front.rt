@@ -10,7 +10,7 @@ ghost use Rattle.mk_rules.specs.Transcript.{OfCommand};
 ghost use Rattle.mk_market.specs.Trading.{IsAt};
 ghost use Rattle.mk_session.specs.Transcript.{Asks};
 ghost use Rattle.mk_session.specs.Outcome.{IsFrontOf};
-ghost use Rattle.mk_verify.specs.Known.{IsKnown};
+ghost use Rattle.mk_known.specs.Known.{IsKnown};
 ghost use Rattle.mk_audit.specs.inner.Progress.{StandsAt, standing_at, left_of};
 ghost use Rattle.mk_audit.specs.inner.Progress.{HoldsBytes, HoldsReply, GoesOnBy, Holds};
 ghost use Rattle.mk_audit.specs.inner.Progress.{EndsBehind};
@@ -19,10 +19,11 @@ use crate::lines::first_line;
 use crate::verdict::{AuditFault, Verdict};
 use mk_command::{CommandRef, Words, read_command};
 use mk_judge::Judged;
+use mk_known::{Known, follow};
 use mk_net::NoMemory;
 use mk_reply::{Reply, Unread, read_reply};
 use mk_session::{LineBuffer, TreeMarket, is_blank, print_plain_price};
-use mk_verify::{Known, follow, judge};
+use mk_verify::judge;
 use std::alloc::Global;
 
 /// How far a transcript is right.

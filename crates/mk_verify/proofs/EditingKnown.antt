@@ -4,8 +4,8 @@ use Rattle.mk_exact.specs.History.{Entry, revision}
 use Rattle.mk_exact.specs.Market.{Market}
 use Rattle.mk_rules.specs.Transcript.{Standing}
 use Rattle.mk_market.specs.Trading.{Trading, IsOnlyAsked}
-use Rattle.mk_verify.specs.Known.{Knowledge, IsKnown}
-use Rattle.mk_verify.specs.inner.Judging.{TellsSmall}
+use Rattle.mk_known.specs.Known.{Knowledge, IsKnown}
+use Rattle.mk_judge_quotes.specs.Small.{TellsSmall}
 
 -- the flag that is read tells whether the history is small
 pub flag_tells : (market : Market) (H : List Entry) (known : Knowledge) (small : Bool) → IsKnown market H known → small ≡ known.small → TellsSmall small market H

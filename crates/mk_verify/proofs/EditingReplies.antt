@@ -22,8 +22,8 @@ use Rattle.mk_evidence.specs.Grades.{evidence_grade}
 use Rattle.mk_evidence.specs.Evidence.{IsEditEvidence}
 use Rattle.mk_evidence.specs.declared.evidence_of_edits.EditEvidence.{EditEvidence}
 use Rattle.mk_verify.specs.Clear.{IsOpen}
-use Rattle.mk_verify.specs.inner.Judging.{TellsSmall}
-use Rattle.mk_verify.specs.inner.Editing.{AreEditBounds, AreLimitsLeftOpen, IsEditLeftOpen}
+use Rattle.mk_judge_quotes.specs.Small.{TellsSmall}
+use Rattle.mk_judge_quotes.specs.Editing.{AreEditBounds, AreLimitsLeftOpen, IsEditLeftOpen}
 use Rattle.mk_verify.proofs.Verdicts.{judges_answer}
 
 -- evidence by the name of its user

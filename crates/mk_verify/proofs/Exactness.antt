@@ -22,9 +22,11 @@ use Rattle.mk_judge.specs.Cash.{IsOwned}
 use Rattle.mk_judge_points.specs.Cash.{IsCashNear, IsBitsNear, AreBitsNear, ArePowersNear, nearness}
 use Rattle.mk_answers.specs.Evidence.{AreBoundsOfPrice, IsFactorOf}
 use Rattle.mk_evidence.specs.Grades.{evidence_grade}
-use Rattle.mk_verify.specs.Clear.{IsPriceOpen, IsCashOpen, AreBitsOpen, IsMostOpen, near_steps}
-use Rattle.mk_verify.proofs.Nearer.{grade_room, price_nearer, cash_nearer, bits_nearer, most_nearer}
-use Rattle.mk_verify.proofs.Verdicts.{judges_by}
+use Rattle.mk_verify.specs.Clear.{IsPriceOpen, IsCashOpen, AreBitsOpen, IsMostOpen}
+use Rattle.mk_judge_quotes.specs.Clear.{near_steps}
+use Rattle.mk_judge_quotes.proofs.Nearer.{grade_room}
+use Rattle.mk_verify.proofs.Nearer.{price_nearer, cash_nearer, bits_nearer, most_nearer}
+use Rattle.mk_judge_quotes.proofs.Verdicts.{judges_by}
 
 -- ---- prices
 

@@ -1,13 +1,10 @@
--- Numbers that are near by some steps are near by more; so is what a judge of mk_judge leaves open
--- of enclosures that have at most a grade.
-use Rattle.std.proofs.Common.{ℕ, ◌+◌, ◌-◌, ◌*◌, ◌^◌, ◌≤◌, ◌⊎◌, inl, inr, Bool, List, arith}
+-- What a judge of mk_judge leaves open of enclosures that have at most a grade is near by steps that
+-- are enough for the grade.
+use Rattle.std.proofs.Common.{ℕ, ◌+◌, ◌-◌, ◌*◌, ◌^◌, ◌≤◌, ◌⊎◌, Bool, arith}
 use Rattle.std.proofs.Math.Nat.{mul-le-mul_left}
 use Rattle.mk_exact.specs.Factors.{Fraction}
-use Rattle.mk_exact.specs.History.{Entry}
-use Rattle.mk_exact.specs.Market.{Market}
 use Rattle.mk_exact.specs.Risk.{nearness}
-use Rattle.mk_net.specs.Bounds.{max_values, million, sharpness}
-use Rattle.mk_scaled.specs.Near.{near_more}
+use Rattle.mk_net.specs.Bounds.{million, sharpness}
 use Rattle.mk_enclose.specs.declared.enclosure.Enclosure.{Enclosure}
 use Rattle.mk_enclose.specs.declared.factor.Factor.{Factor}
 use Rattle.mk_enclose.specs.Enclosure.{IsGradedWithin}
@@ -18,18 +15,7 @@ use Rattle.mk_judge.specs.Prices.{AreNearUnits, IsPriceNear}
 use Rattle.mk_judge_points.specs.Cash.{ArePowersNear, IsCashNear, IsBitsNear, AreBitsNear, nearness as cash_nearness}
 use Rattle.mk_judge_points.specs.Losses.{quotient, IsBoundNear}
 use Rattle.mk_answers.specs.Evidence.{ArePriceGraded}
-use Rattle.mk_evidence.specs.Grades.{evidence_grade}
-
-pub nearer : (a b i j : ℕ) → i ≤ j → AreNear a b i → AreNear a b j
-nearer a b i j more near = record {
-  upward = near_more a b i j more near.upward;
-  downward = near_more b a i j more near.downward;
-}
-
--- one of two, or of four
-pub either_of : {A B C D : Type 0} → (A → C) → (B → D) → A ⊎ B → C ⊎ D
-either_of first second (inl a) = inl (first a)
-either_of first second (inr b) = inr (second b)
+use Rattle.mk_judge_quotes.proofs.Nearer.{nearer, either_of}
 
 pub units_nearer : (near : ℕ) (price : Fraction) (low high i j : ℕ) → i ≤ j
     → AreNearUnits near price low high i → AreNearUnits near price low high j
@@ -44,10 +30,6 @@ powers_nearer near q b low high i j more =
     (either_of (nearer _ _ i j more) (nearer _ _ i j more)))
 
 -- ---- by a greatest grade
-
--- which has one step for each value that a variable may have
-pub grade_room : (market : Market) (H : List Entry) → max_values ≤ evidence_grade market H
-grade_room market H = omega arith
 
 pub price_nearer : (parts : ℕ) (bounds : PriceBounds) (price : Fraction)
     (low high most steps : ℕ) → most + most + 2 ≤ steps → ArePriceGraded most bounds

@@ -27,7 +27,8 @@ use Rattle.mk_verify.specs.Clear.{IsOpen, IsPaymentOpen}
 use Rattle.mk_answers.specs.Evidence.{IsFactorOf}
 use Rattle.mk_exact.specs.Factors.{gain}
 use Rattle.mk_enclose.specs.declared.factor.Factor.{Factor}
-use Rattle.mk_verify.specs.inner.Judging.{TellsSmall, JudgesReply, PaysCash, PayEach, IsPaymentLeftOpen}
+use Rattle.mk_judge_quotes.specs.Small.{TellsSmall}
+use Rattle.mk_verify.specs.inner.Judging.{JudgesReply, PaysCash, PayEach, IsPaymentLeftOpen}
 use Rattle.mk_verify.proofs.Places.{numbered_of, numbered_at, numbered_names, JudgesBelow, IsOpenBelow, HoldBelow}
 use Rattle.mk_verify.proofs.Exactness.{JudgesCash, cash_judged}
 use Rattle.mk_verify.proofs.Verdicts.{judges_answer}

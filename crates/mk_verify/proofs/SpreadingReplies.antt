@@ -32,10 +32,10 @@ use Rattle.mk_evidence.specs.Grades.{evidence_grade}
 use Rattle.mk_evidence.specs.Evidence.{IsSpreadEvidence}
 use Rattle.mk_evidence.specs.declared.evidence_of_spreads.SpreadEvidence.{SpreadEvidence}
 use Rattle.mk_verify.specs.Clear.{IsOpen}
-use Rattle.mk_verify.specs.inner.Judging.{TellsSmall}
-use Rattle.mk_verify.specs.inner.Spreading.{AreEachBounds, AreBoundsLeftOpen, IsSpreadLeftOpen}
+use Rattle.mk_judge_quotes.specs.Small.{TellsSmall}
+use Rattle.mk_judge_quotes.specs.Spreading.{AreEachBounds, AreBoundsLeftOpen, IsSpreadLeftOpen}
 use Rattle.mk_verify.proofs.Verdicts.{judges_answer}
-use Rattle.mk_verify.proofs.SpreadingNear.{in_range}
+use Rattle.mk_judge_quotes.proofs.SpreadingNear.{in_range}
 
 -- evidence by the name of its user
 pub each_bounds : (market : Market) (H : List Entry) (name v : List ℕ) (condition : ArrayVec PairText) (evidence : SpreadEvidence) (small : Bool) (now : ℕ)

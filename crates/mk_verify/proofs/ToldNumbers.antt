@@ -31,11 +31,14 @@ use Rattle.mk_judge_points.specs.Losses.{quotient, IsBoundNear}
 use Rattle.mk_judge.proofs.Judging.{judges_as}
 use Rattle.mk_answers.specs.Evidence.{AreBoundsOfPrice, IsLeastFactorOf, IsLeastWeight}
 use Rattle.mk_evidence.specs.Grades.{evidence_grade, all_cells}
-use Rattle.mk_verify.specs.Clear.{IsOpen, IsPriceOpen, IsCashOpen, AreBitsOpen, IsMostOpen, near_steps}
-use Rattle.mk_verify.specs.inner.Judging.{TellsSmall, JudgesReply}
+use Rattle.mk_verify.specs.Clear.{IsOpen, IsPriceOpen, IsCashOpen, AreBitsOpen, IsMostOpen}
+use Rattle.mk_judge_quotes.specs.Clear.{near_steps}
+use Rattle.mk_judge_quotes.specs.Small.{TellsSmall}
+use Rattle.mk_verify.specs.inner.Judging.{JudgesReply}
 use Rattle.mk_verify.proofs.Nearer.{bound_nearer}
 use Rattle.mk_verify.proofs.Exactness.{JudgesPrice, JudgesCash, JudgesCovered, JudgesMost, price_judged, cash_judged, covered_judged, most_judged}
-use Rattle.mk_verify.proofs.Verdicts.{judges_by, judges_some, judges_answer}
+use Rattle.mk_judge_quotes.proofs.Verdicts.{judges_by}
+use Rattle.mk_verify.proofs.Verdicts.{judges_some, judges_answer}
 
 -- of a reply that is the same
 pub judges_same : (market : Market) (H : List Entry) (command : _) (reply told : Reply) (j : Judged)

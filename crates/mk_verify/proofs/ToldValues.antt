@@ -29,7 +29,8 @@ use Rattle.mk_judge.specs.Judged.{Judges}
 use Rattle.mk_answers.specs.Evidence.{IsLeastFactorOf, IsFactorOf}
 use Rattle.mk_evidence.specs.Grades.{evidence_grade}
 use Rattle.mk_verify.specs.Clear.{IsOpen, IsPlaceOpen, IsPriceOpen, IsCashOpen, IsLeastCashOpen}
-use Rattle.mk_verify.specs.inner.Judging.{TellsSmall, JudgesReply, AreBoundsOfPrices, AreSureFactorsOf}
+use Rattle.mk_judge_quotes.specs.Small.{TellsSmall}
+use Rattle.mk_verify.specs.inner.Judging.{JudgesReply, AreBoundsOfPrices, AreSureFactorsOf}
 use Rattle.mk_verify.proofs.Exactness.{JudgesCash, cash_judged}
 use Rattle.mk_judge.specs.Powers.{HasCashRange}
 use Rattle.mk_judge.specs.Prices.{HavePriceRange}

@@ -1,5 +1,5 @@
 -- Judgements of replies by those of the numbers in them.
-use Rattle.std.proofs.Common.{◌≡◌, refl, sym, subst, Option, Some, None, IsSomeAnd, MatchOption, List}
+use Rattle.std.proofs.Common.{◌≡◌, sym, subst, Option, Some, None, IsSomeAnd, MatchOption, List}
 use Rattle.mk_exact.specs.History.{Entry}
 use Rattle.mk_exact.specs.Market.{Market}
 use Rattle.mk_command.specs.declared.command.Command.{Command}
@@ -10,18 +10,10 @@ use Rattle.mk_rules.specs.Quotes.{Quotes}
 use Rattle.mk_rules.specs.Refusals.{first_refusal}
 use Rattle.mk_rules.specs.Answers.{IsAnswer, IsAllowed}
 use Rattle.mk_judge.specs.declared.judged.Judged.{Judged}
-use Rattle.mk_judge.specs.declared.judged.Judged.TheVariants.{Allowed, Wrong, Unclear}
 use Rattle.mk_judge.specs.Judged.{Judges}
 use Rattle.mk_judge.proofs.Judging.{judges_as}
 use Rattle.mk_verify.specs.Clear.{IsOpen}
 use Rattle.mk_verify.specs.inner.Judging.{JudgesReply}
-
--- by the three clauses of a judge
-pub judges_by : (j : Judged) (S O : Type 0) → (j ≡ Allowed → S) → (j ≡ Wrong → S → ⊥)
-    → (j ≡ Unclear → O) → Judges j S O
-judges_by Allowed S O allowed wrong unclear = allowed refl
-judges_by Wrong S O allowed wrong unclear = wrong refl
-judges_by Unclear S O allowed wrong unclear = unclear refl
 
 -- of what holds of a value that is there
 pub judges_some : {X : Type 0} (o : Option X) (E S O : X → Type 0) (j : Judged) → IsSomeAnd o E

@@ -1,3 +1,2 @@
 pub mod Clear
-pub mod Known
 pub mod inner

@@ -18,7 +18,8 @@ ghost use Rattle.mk_judge.specs.Prices.{HavePriceRange};
 ghost use Rattle.mk_answers.specs.Evidence.{AreBoundsOfPrice, IsSureFactor};
 ghost use Rattle.mk_evidence.specs.Grades.{evidence_grade};
 ghost use Rattle.mk_verify.specs.Clear.{IsPriceOpen, IsPlaceOpen, IsLeastCashOpen};
-ghost use Rattle.mk_verify.specs.inner.Judging.{TellsSmall, AreBoundsOfPrices, AreSureFactorsOf};
+ghost use Rattle.mk_judge_quotes.specs.Small.{TellsSmall};
+ghost use Rattle.mk_verify.specs.inner.Judging.{AreBoundsOfPrices, AreSureFactorsOf};
 
 use mk_enclose::Factor;
 use mk_judge::{Judged, PriceBounds, judge_price};

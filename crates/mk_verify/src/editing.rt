@@ -6,15 +6,14 @@ ghost use Rattle.mk_judge.specs.Judged.{Judges};
 ghost use Rattle.mk_rules.specs.Answers.{IsAllowed};
 ghost use Rattle.mk_rules.specs.Standings.{Stands};
 ghost use Rattle.mk_verify.specs.Clear.{IsOpen};
-ghost use Rattle.mk_verify.specs.Known.{IsKnown};
+ghost use Rattle.mk_known.specs.Known.{IsKnown};
 
-use crate::edits::{judge_edit, judge_told_limits};
-use crate::known::Known;
-use crate::noting::revision_of;
 use crate::refused::judge_refused;
 use mk_engine::TreeGraded;
 use mk_evidence::{edit_evidence, limits_evidence};
 use mk_judge::Judged;
+use mk_judge_quotes::{judge_edit, judge_told_limits};
+use mk_known::{Known, revision_of};
 use mk_market::Market;
 use mk_net::{Name, QuestionText};
 use mk_reply::Reply;

@@ -7,10 +7,9 @@ ghost use Rattle.mk_rules.specs.Standings.{Stands};
 ghost use Rattle.mk_market.specs.Trading.{IsOnlyAsked};
 ghost use Rattle.mk_judge.specs.Judged.{Judges};
 ghost use Rattle.mk_verify.specs.Clear.{IsOpen};
-ghost use Rattle.mk_verify.specs.Known.{IsKnown};
+ghost use Rattle.mk_known.specs.Known.{IsKnown};
 
 use crate::editing::{AskedEdit, judge_edit_reply, judge_limits_reply};
-use crate::known::Known;
 use crate::numbers::{judge_bound_reply, judge_price_reply, judge_withdrawal, judge_worst_reply};
 use crate::numbers_of_values::{judge_position, judge_prices};
 use crate::plain::{
@@ -21,6 +20,7 @@ use crate::spreading::{AskedSpread, judge_bounds_reply, judge_spread_reply};
 use mk_command::CommandRef;
 use mk_engine::TreeGraded;
 use mk_judge::Judged;
+use mk_known::Known;
 use mk_market::Market;
 use mk_reply::Reply;
 use mk_semiring::{MinProd, SumProd};

@@ -4,20 +4,12 @@
 
 mod each;
 mod editing;
-mod edits;
-mod following;
 mod judging;
-mod known;
-mod noting;
 mod numbers;
 mod numbers_of_values;
 mod plain;
 mod refused;
 mod settlement;
 mod spreading;
-mod spreads;
-mod told;
 
-pub use following::follow;
 pub use judging::judge;
-pub use known::Known;

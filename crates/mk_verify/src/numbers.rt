@@ -6,7 +6,8 @@ ghost use Rattle.mk_reply.specs.declared.reply.Reply.TheVariants.{Withdrawn, Ref
 ghost use Rattle.mk_command.specs.declared.command.Command.TheVariants as command;
 ghost use Rattle.mk_reply.specs.Replies.{IsReply};
 ghost use Rattle.mk_market.specs.Trading.{IsOnlyAsked};
-ghost use Rattle.mk_verify.specs.inner.Judging.{JudgesReply, TellsSmall};
+ghost use Rattle.mk_verify.specs.inner.Judging.{JudgesReply};
+ghost use Rattle.mk_judge_quotes.specs.Small.{TellsSmall};
 
 use crate::plain::is_next;
 use crate::refused::judge_refused;

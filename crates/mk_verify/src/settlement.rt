@@ -15,7 +15,8 @@ ghost use Rattle.mk_rules.specs.Refusals.{first_refusal};
 ghost use Rattle.mk_market.specs.Trading.{IsOnlyAsked};
 ghost use Rattle.mk_judge.specs.Judged.{Judges};
 ghost use Rattle.mk_verify.specs.Clear.{IsCashOpen, IsPaymentOpen};
-ghost use Rattle.mk_verify.specs.inner.Judging.{JudgesReply, TellsSmall, PaysCash, PayEach};
+ghost use Rattle.mk_verify.specs.inner.Judging.{JudgesReply, PaysCash, PayEach};
+ghost use Rattle.mk_judge_quotes.specs.Small.{TellsSmall};
 ghost use Rattle.mk_verify.specs.inner.Judging.{IsPaymentLeftOpen};
 
 use crate::plain::{is_next, judge_words};

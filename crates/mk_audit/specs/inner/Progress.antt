@@ -20,7 +20,7 @@ use Rattle.mk_session.specs.Transcript.{Asks}
 use Rattle.mk_session.specs.Outcome.{IsFrontOf}
 use Rattle.mk_session.specs.inner.Progress.{IsPlaced}
 use Rattle.mk_verify.specs.Clear.{IsOpen}
-use Rattle.mk_verify.specs.Known.{IsKnown, standing_with}
+use Rattle.mk_known.specs.Known.{IsKnown, standing_with}
 use Rattle.mk_audit.specs.declared.verdict.Verdict.{Verdict}
 use Rattle.mk_audit.specs.declared.verdict.Verdict.TheVariants.{Yes, No, Unsure}
 use Rattle.mk_audit.specs.declared.verdict.AuditFault.{AuditFault}

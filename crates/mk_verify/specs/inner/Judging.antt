@@ -1,6 +1,6 @@
 -- What the judge of one command's replies says.
 use Rattle.std.specs.Prelude.{◌≡◌, ℕ, ◌+◌, Bool, true, false, List, Option, Some, IsSomeAnd}
-use Rattle.std.specs.Prelude.{slice_get, ◌↔◌, ◌⊎◌}
+use Rattle.std.specs.Prelude.{slice_get, ◌⊎◌}
 use Rattle.std.specs.List.{AllZip}
 use Rattle.mk_net.specs.Bounds.{sharpness}
 use Rattle.mk_states.specs.Events.{with_target}
@@ -30,10 +30,6 @@ use Rattle.mk_judge.specs.declared.price.PriceBounds.{PriceBounds}
 use Rattle.mk_answers.specs.Evidence.{AreBoundsOfPrice, IsSureFactor}
 use Rattle.mk_evidence.specs.Grades.{evidence_grade}
 use Rattle.mk_verify.specs.Clear.{IsOpen, IsCashOpen}
-
--- the flag is set exactly where the history is small
-abbrev pub TellsSmall : Bool → Market → List Entry → Type 0
-TellsSmall small market H = (small ≡ true) ↔ IsSmall market.network H
 
 -- the judgement of a reply to a command, whatever users were quoted
 abbrev pub JudgesReply : Market → List Entry → Command → Reply → Judged → Type 0

@@ -6,7 +6,8 @@ use Rattle.mk_exact.specs.Sound.{IsSound}
 use Rattle.mk_spread.specs.Spreads.{SpreadAsked, asked_of}
 use Rattle.mk_spread.specs.Told.{IsSureOf}
 use Rattle.mk_verify.specs.Clear.{IsLeastCashOpen}
-use Rattle.mk_verify.specs.inner.Judging.{TellsSmall, AreSureFactorsOf}
+use Rattle.mk_judge_quotes.specs.Small.{TellsSmall}
+use Rattle.mk_verify.specs.inner.Judging.{AreSureFactorsOf}
 use Rattle.mk_verify.proofs.Places.{JudgesBelow}
 use Rattle.mk_verify.proofs.each.judge_each_position.Given as goal
 

@@ -4,7 +4,8 @@ use Rattle.mk_exact.specs.Market.{Market}
 use Rattle.mk_spread.specs.Spreads.{SpreadAsked, asked_of}
 use Rattle.mk_spread.specs.Told.{CoversValue}
 use Rattle.mk_verify.specs.Clear.{IsPriceOpen}
-use Rattle.mk_verify.specs.inner.Judging.{TellsSmall, AreBoundsOfPrices}
+use Rattle.mk_judge_quotes.specs.Small.{TellsSmall}
+use Rattle.mk_verify.specs.inner.Judging.{AreBoundsOfPrices}
 use Rattle.mk_verify.proofs.Places.{JudgesBelow}
 use Rattle.mk_verify.proofs.each.judge_each_price.Given as goal
 

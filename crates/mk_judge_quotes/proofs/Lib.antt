@@ -1,0 +1,7 @@
+pub mod EditingJudged
+pub mod EditingNear
+pub mod Nearer
+pub mod SpreadingJudged
+pub mod SpreadingLists
+pub mod SpreadingNear
+pub mod Verdicts

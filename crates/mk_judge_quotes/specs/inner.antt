@@ -1,0 +1,3 @@
+-- What only proofs and private contracts cite.
+pub mod Editing
+pub mod Spreading

@@ -1,0 +1,202 @@
+//! Judgements of limits and of trades that are printed for a question, by bounds of both sides.
+
+ghost use Rattle.std.specs.Prelude.{◌≡◌, ℕ, ◌+◌, ◌-◌, ◌*◌, ◌^◌};
+ghost use Rattle.std.specs.Prelude.{◌<◌, ◌≤◌, ◌↔◌, List, None, MatchOption, IsTrue};
+ghost use Rattle.mk_net.specs.declared.words.QuestionText.{QuestionText};
+ghost use Rattle.mk_exact.specs.History.{Entry};
+ghost use Rattle.mk_exact.specs.Limits.{Inside};
+ghost use Rattle.mk_exact.specs.Market.{Market};
+ghost use Rattle.mk_quote.specs.Bounds as side;
+ghost use Rattle.mk_judge.specs.Judged.{Judges};
+ghost use Rattle.mk_judge.specs.Units.{HasTradeRange};
+ghost use Rattle.mk_reply.specs.declared.reply.Reply.TheVariants.{Refused};
+ghost use Rattle.mk_reply.specs.declared.refusal.Refusal.TheVariants.{Beyond};
+ghost use Rattle.mk_rules.specs.Refusals.{user_number};
+ghost use Rattle.mk_rules.specs.Answers.{IsLimits, IsTrade, IsJudged, IsJudgedAfresh};
+ghost use Rattle.mk_judge_quotes.specs.Editing.{AreEditBounds, AreLimitsLeftOpen};
+ghost use Rattle.mk_judge_quotes.specs.Editing.{IsEditLeftOpen};
+ghost use Rattle.mk_judge_quotes.specs.inner.Editing.{IsTradeLeftOpen};
+ghost use Rattle.mk_judge_quotes.specs.Told.{beyond_told};
+
+use crate::told::beyond_told;
+use mk_judge::{Judged, judge_limits, judge_units};
+use mk_quote::{Bounds, SideBounds};
+use mk_reply::Reply;
+
+/// The parts in which a share is given.
+const MILLION: u32 = 1_000_000;
+
+/// Judges the limits that a reply tells at a revision.
+pub fn judge_told_limits(bounds: &Bounds, small: bool, now: u64, reply: &Reply) -> Judged
+    requires hit_range { HasTradeRange bounds.now.hit_factor }
+    requires miss_range { HasTradeRange bounds.now.miss_factor }
+    ensures { (market : Market) (H : List Entry) (name : List ℕ) (q : QuestionText)
+        → (its : AreEditBounds market H name q bounds.now small now)
+        → Judges result
+        (IsLimits market.network H (user_number H name) its.asked reply.now)
+        (AreLimitsLeftOpen market H (user_number H name) its.asked reply.now) }
+{
+    match reply {
+        Reply::Limits { limits, at } => {
+            if *at == now {
+                judge_limits(bounds, small, *limits)
+            } else {
+                Judged::Wrong
+            }
+        }
+        _ => Judged::Wrong,
+    }
+}
+
+/// Judges the reply to an edit, to so many millionths, of a user with these current limits, if
+/// any were printed.
+pub fn judge_edit(
+    bounds: &Bounds,
+    small: bool,
+    now: u64,
+    quoted: Option<Option<(u32, u32)>>,
+    to: u32,
+    reply: &Reply,
+) -> Judged
+    requires hit_range { HasTradeRange bounds.now.hit_factor }
+    requires miss_range { HasTradeRange bounds.now.miss_factor }
+    requires some { 1 ≤ to }
+    requires few { to ≤ 999999 }
+    ensures { (market : Market) (H : List Entry) (name : List ℕ) (q : QuestionText)
+        → (its : AreEditBounds market H name q bounds.now small now)
+        → Judges result
+        (MatchOption quoted
+        (IsJudgedAfresh market.network H (user_number H name) its.asked to reply.now)
+        (λ limits. IsJudged market.network H (user_number H name) its.asked to limits
+        reply.now))
+        (IsEditLeftOpen market H (user_number H name) its.asked to quoted reply.now) }
+{
+    match quoted {
+        Some(limits) => judge_by_quote(bounds, small, now, limits, to, reply),
+        None => judge_afresh(bounds, small, now, to, reply),
+    }
+}
+
+/// Judges it by limits that were quoted: inside of them by its units, outside by the limits.
+fn judge_by_quote(
+    bounds: &Bounds,
+    small: bool,
+    now: u64,
+    limits: Option<(u32, u32)>,
+    to: u32,
+    reply: &Reply,
+) -> Judged
+    requires hit_range { HasTradeRange bounds.now.hit_factor }
+    requires miss_range { HasTradeRange bounds.now.miss_factor }
+    requires some { 1 ≤ to }
+    requires few { to ≤ 999999 }
+    ensures { (market : Market) (H : List Entry) (name : List ℕ) (q : QuestionText)
+        → (its : AreEditBounds market H name q bounds.now small now)
+        → Judges result
+        (IsJudged market.network H (user_number H name) its.asked to limits reply.now)
+        (IsTradeLeftOpen market H (user_number H name) its.asked to reply.now) }
+{
+    if is_inside(limits, to) {
+        judge_trade(bounds, small, now, to, reply)
+    } else {
+        judge_same(limits, reply)
+    }
+}
+
+/// Judges it without current limits: by its units, or by limits that are right.
+fn judge_afresh(bounds: &Bounds, small: bool, now: u64, to: u32, reply: &Reply) -> Judged
+    requires hit_range { HasTradeRange bounds.now.hit_factor }
+    requires miss_range { HasTradeRange bounds.now.miss_factor }
+    requires some { 1 ≤ to }
+    requires few { to ≤ 999999 }
+    ensures { (market : Market) (H : List Entry) (name : List ℕ) (q : QuestionText)
+        → (its : AreEditBounds market H name q bounds.now small now)
+        → Judges result
+        (IsJudgedAfresh market.network H (user_number H name) its.asked to reply.now)
+        (IsEditLeftOpen market H (user_number H name) its.asked to None reply.now) }
+{
+    match beyond_told(reply) {
+        Some(limits) => {
+            if is_inside(limits, to) {
+                Judged::Wrong
+            } else {
+                judge_limits(bounds, small, limits)
+            }
+        }
+        None => judge_trade(bounds, small, now, to, reply),
+    }
+}
+
+/// Judges a trade to so many millionths by its units on both sides.
+fn judge_trade(bounds: &Bounds, small: bool, now: u64, to: u32, reply: &Reply) -> Judged
+    requires hit_range { HasTradeRange bounds.now.hit_factor }
+    requires miss_range { HasTradeRange bounds.now.miss_factor }
+    requires some { 1 ≤ to }
+    requires few { to ≤ 999999 }
+    ensures { (market : Market) (H : List Entry) (name : List ℕ) (q : QuestionText)
+        → (its : AreEditBounds market H name q bounds.now small now)
+        → Judges result
+        (IsTrade market.network H (user_number H name) its.asked to reply.now)
+        (IsTradeLeftOpen market H (user_number H name) its.asked to reply.now) }
+{
+    match reply {
+        Reply::Traded { hit, miss, at } => {
+            if *at >= 1 && *at - 1 == now {
+                let of_hit = judge_units(&hit_side(bounds), small, to, *hit);
+                let of_miss = judge_units(&miss_side(bounds), small, MILLION - to, *miss);
+                of_hit.and(of_miss)
+            } else {
+                Judged::Wrong
+            }
+        }
+        _ => Judged::Wrong,
+    }
+}
+
+/// Judges a refusal by limits that were quoted: they alone are allowed.
+fn judge_same(limits: Option<(u32, u32)>, reply: &Reply) -> Judged
+    ensures { Judges result (reply.now ≡ Refused (Beyond limits)) ⊥ }
+{
+    match beyond_told(reply) {
+        Some(told) => {
+            if told == limits {
+                Judged::Allowed
+            } else {
+                Judged::Wrong
+            }
+        }
+        None => Judged::Wrong,
+    }
+}
+
+/// Whether a share lies inside of limits.
+pub(crate) fn is_inside(limits: Option<(u32, u32)>, to: u32) -> bool
+    ensures { IsTrue result ↔ Inside limits to }
+{
+    match limits {
+        Some((low, high)) => low <= to && to <= high,
+        None => false,
+    }
+}
+
+/// The side of the target.
+fn hit_side(bounds: &Bounds) -> SideBounds
+    ensures { result ≡ side.hit_side bounds.now }
+{
+    SideBounds {
+        part: bounds.hit,
+        whole: bounds.whole,
+        factor: bounds.hit_factor,
+    }
+}
+
+/// The side of the other values.
+fn miss_side(bounds: &Bounds) -> SideBounds
+    ensures { result ≡ side.miss_side bounds.now }
+{
+    SideBounds {
+        part: bounds.miss,
+        whole: bounds.whole,
+        factor: bounds.miss_factor,
+    }
+}

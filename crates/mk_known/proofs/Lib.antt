@@ -1,0 +1,2 @@
+pub mod KnownFollow
+pub mod SmallWeights

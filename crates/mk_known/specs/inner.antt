@@ -1,0 +1,4 @@
+-- What only proofs and private contracts cite.
+pub mod Givens
+pub mod Noted
+pub mod Walks
