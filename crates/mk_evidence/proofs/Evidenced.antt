@@ -59,7 +59,7 @@ use Rattle.mk_evidence.specs.inner.Finding.{AreBothFound, AreEachFound}
 use Rattle.mk_market.specs.inner.Keeping.{quoted}
 use Rattle.mk_market.proofs.Quotes.{trading}
 use Rattle.mk_market.proofs.Replies.{stopped_by_states, unrefused}
-use Rattle.mk_market.proofs.Together.{none_together, condition_comes}
+use Rattle.mk_asking.proofs.Together.{none_together, condition_comes}
 
 -- a market whose users were quoted the same was only asked
 pub only_asked : {A Plan : Type 0} (file : MarketFile) (ledger : LedgerOf)

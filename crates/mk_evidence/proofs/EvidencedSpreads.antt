@@ -20,14 +20,14 @@ use Rattle.mk_reply.specs.declared.refusal.Refusal.{Refusal}
 use Rattle.mk_rules.specs.Refusals.{spread_named, impossible_together, sure_value}
 use Rattle.mk_rules.specs.Refusals.{impossible_share, missing_share}
 use Rattle.mk_answers.specs.Open.{IsOpen, CanBeSpreadHere, AreSideBoundsFor}
-use Rattle.mk_market.specs.declared.possible.Stopped.{Stopped}
-use Rattle.mk_market.specs.declared.possible.Stopped.TheVariants as stopped
+use Rattle.mk_asking.specs.declared.possible.Stopped.{Stopped}
+use Rattle.mk_asking.specs.declared.possible.Stopped.TheVariants as stopped
 use Rattle.mk_evidence.specs.inner.Finding.{AreEachFound, HasQuote, ArePlaced, IsStoppedAnew}
-use Rattle.mk_market.specs.inner.Quoting.{IsSpreadQuoteOf}
-use Rattle.mk_market.specs.inner.Stopped.{IsRefusedFor, MayStop}
-use Rattle.mk_market.proofs.StoppedSpreads.{decided_first, impossible_first, missing_first}
-use Rattle.mk_market.proofs.StoppedSpreads.{none_first, first_below}
-use Rattle.mk_market.proofs.TogetherSpreads.{together_left, not_sure}
+use Rattle.mk_asking.specs.Quoting.{IsSpreadQuoteOf}
+use Rattle.mk_asking.specs.Stopped.{IsRefusedFor, MayStop}
+use Rattle.mk_asking.proofs.StoppedSpreads.{decided_first, impossible_first, missing_first}
+use Rattle.mk_asking.proofs.StoppedSpreads.{none_first, first_below}
+use Rattle.mk_asking.proofs.TogetherSpreads.{together_left, not_sure}
 
 module _ (network : List Variable) (tree : GivenTree) (H : List Entry) (u : ℕ)
     (spread : SpreadAsked) where

@@ -16,10 +16,11 @@ use arrayvec::ArrayVec;
 use mk_answers::{
     least_of, least_weight_of, price_bounds_of, sure_factors_of, value_price_bounds_of,
 };
+use mk_asking::{learn, refuse_condition};
 use mk_enclose::{Enclosure, Factor};
 use mk_engine::{Engine, TreeGraded};
 use mk_judge::PriceBounds;
-use mk_market::{Market, learn, refuse_condition};
+use mk_market::Market;
 use mk_net::{Name, PairText, QuestionText};
 use mk_record::{
     not_settled, refuse_bounds, refuse_price, refuse_prices, refuse_transfer, refuse_worst,

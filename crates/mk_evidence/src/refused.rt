@@ -8,8 +8,9 @@ ghost use Rattle.mk_record.specs.Refused.{refusal_in};
 
 use mk_addition::AddText;
 use mk_admission::refuse_add;
+use mk_asking::can_come;
 use mk_engine::Engine;
-use mk_market::{Market, can_come, home_of};
+use mk_market::{Market, home_of};
 use mk_net::{Name, PairText};
 use mk_record::{refuse_resolve, refuse_settle, refuse_transfer, refuse_user};
 use mk_reply::Refusal;

@@ -30,7 +30,7 @@ use Rattle.mk_record.specs.Refused.{IsQuestionFor}
 use Rattle.mk_market.specs.inner.Keeping.{standing_of, IsKept}
 use Rattle.mk_market.proofs.Growing.{is_open}
 use Rattle.mk_market.proofs.Replies.{answer_allowed, none_appended, unrefused}
-use Rattle.mk_market.proofs.Together.{none_together}
+use Rattle.mk_asking.proofs.Together.{none_together}
 use Rattle.mk_replay.specs.Tills.{TillOf}
 
 -- what holds of each pair that is found

@@ -1,10 +1,10 @@
 -- Whose assets an answer leaves as they were.
 use Rattle.std.specs.Prelude.{◌≡◌, ℕ, zero, suc, ◌<◌, List, [], ◌∷◌, ◌++◌, length}
-use Rattle.std.specs.Prelude.{true, Option, Some, None, option_map, slice_get, slice_set}
+use Rattle.std.specs.Prelude.{true, Some, None, slice_get}
 use Rattle.std.specs.List.{position_or_len}
 use Rattle.std.proofs.Common.{refl, sym, ap, ◌∙◌, subst, arith}
 use Rattle.std.proofs.lemmas.List.{length-map, map-append}
-use Rattle.std.proofs.lemmas.Option.{slice_get_within, slice_get-map, get_or_from_slice_get}
+use Rattle.std.proofs.lemmas.Option.{slice_get_within, get_or_from_slice_get}
 use Rattle.mk_net.specs.Texts.{same_text}
 use Rattle.mk_net.proofs.Distinct.{found_at}
 use Rattle.mk_net.proofs.SameText.{equal_of_same_text}
@@ -17,23 +17,11 @@ use Rattle.mk_command.specs.declared.command.Command.TheVariants.{Limits, Edit, 
 use Rattle.mk_command.specs.declared.command.Command.TheVariants.{Worst, Paid, Resolve, Settle}
 use Rattle.mk_command.specs.declared.command.Command.TheVariants.{Bound, Prices, Position, Status}
 use Rattle.mk_command.specs.declared.command.Command.TheVariants.{Add}
-use Rattle.mk_record.specs.declared.last_quote.LastQuote.{LastQuote}
 use Rattle.mk_record.specs.declared.users.Member.{Member}
-use Rattle.mk_record.specs.Members.{new_member, names_of, assets_of, with_assets, with_quote}
+use Rattle.mk_record.specs.Members.{new_member, names_of, assets_of}
 use Rattle.mk_record.specs.Refused.{IsUser}
 use Rattle.mk_market.specs.Trading.{Trading, AreOthersLeft, LeavesOthers}
-use Rattle.mk_market.specs.inner.Apart.{OwnApart}
-use Rattle.mk_market.proofs.Lent.{assets_beside}
-
--- ---- one user's assets are written to
-
-set_elsewhere : {X : Type 0} (xs : List X) (i j : ℕ) (x : X) → (j ≡ i → ⊥)
-    → slice_get (slice_set xs i x) j ≡ slice_get xs j
-set_elsewhere [] i j x other = refl
-set_elsewhere (z ∷ zs) zero zero x other = absurd (other refl)
-set_elsewhere (z ∷ zs) zero (suc j) x other = refl
-set_elsewhere (z ∷ zs) (suc i) zero x other = refl
-set_elsewhere (z ∷ zs) (suc i) (suc j) x other = set_elsewhere zs i j x (λ e. other (ap suc e))
+use Rattle.mk_asking.specs.Apart.{OwnApart}
 
 -- what stands in front stays
 front_stays : {X : Type 0} (xs : List X) (y : X) (i : ℕ) → i < length xs
@@ -55,41 +43,6 @@ its_name H name other user is at =
     (subst (λ (n : List ℕ). same_text name n ≡ true) held found)
 
 module _ {A Plan : Type 0} where
-  -- the others own what they owned
-  pub apart_lent : (members : List (Member A Plan)) (user : ℕ) (assets : Assets A Plan)
-      → OwnApart user members (with_assets members user assets)
-  apart_lent members user assets u other = at (slice_get members user) refl
-    where
-      at : (o : Option (Member A Plan)) → slice_get members user ≡ o
-          → slice_get (assets_of (with_assets members user assets)) u
-          ≡ slice_get (assets_of members) u
-      at None e = rw e refl
-      at (Some m) e =
-          let changed : Member A Plan = record m { assets = assets } in
-          rw e (slice_get-map (λ (m : Member A Plan). m.assets) (slice_set members user changed) u
-          ∙ ap (option_map (λ (m : Member A Plan). m.assets))
-          (set_elsewhere members user u changed other)
-          ∙ sym (slice_get-map (λ (m : Member A Plan). m.assets) members u))
-
-  pub apart_same : (members new_members : List (Member A Plan)) (user : ℕ)
-      → assets_of new_members ≡ assets_of members → OwnApart user members new_members
-  apart_same members new_members user same u other =
-      ap (λ (all : List (Assets A Plan)). slice_get all u) same
-
-  pub apart_then : (user : ℕ) (members mid new_members : List (Member A Plan))
-      → OwnApart user members mid → OwnApart user mid new_members
-      → OwnApart user members new_members
-  apart_then user members mid new_members first later u other = later u other ∙ first u other
-
-  pub apart_quoted : (user : ℕ) (members mid new_members : List (Member A Plan)) (quote : LastQuote)
-      → OwnApart user members mid → new_members ≡ with_quote mid user quote
-      → OwnApart user members new_members
-  apart_quoted user members mid new_members quote first set =
-      apart_then user members mid new_members first
-      (apart_same mid new_members user (ap assets_of set ∙ assets_beside mid user quote))
-
-  -- ---- users and their history
-
   -- each user of a history owns something
   pub each_owns : (members : List (Member A Plan)) (names : List (List ℕ))
       → names_of members ≡ names → length (assets_of members) ≡ length names

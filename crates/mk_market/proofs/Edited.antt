@@ -50,17 +50,19 @@ use Rattle.mk_record.specs.Members.{quotes_of}
 use Rattle.mk_record.specs.Refused.{IsUser, IsQuestionFor}
 use Rattle.mk_market.specs.Trading.{Trading, IsAnswered}
 use Rattle.mk_market.specs.inner.Answering.{IsAnsweredBy}
-use Rattle.mk_market.specs.inner.Keeping.{quoted, standing_of, IsKeptQuote, IsKept}
-use Rattle.mk_market.specs.inner.Quoting.{IsQuoteOf}
+use Rattle.mk_asking.specs.Keeping.{IsKeptQuote}
+use Rattle.mk_market.specs.inner.Keeping.{quoted, standing_of, IsKept}
+use Rattle.mk_asking.specs.Quoting.{IsQuoteOf}
 use Rattle.mk_market.proofs.Apart.{EachOwns, AreApart, left_alone, each_owns}
 use Rattle.mk_market.proofs.Apart.{each_owns_then, others_left}
 use Rattle.mk_market.proofs.Growing.{is_open}
-use Rattle.mk_market.proofs.Quotes.{trading, AreQuoted, quote_said, standing_quoted}
+use Rattle.mk_asking.proofs.Quotes.{AreQuoted}
+use Rattle.mk_market.proofs.Quotes.{trading, quote_said, standing_quoted}
 use Rattle.mk_market.proofs.Replies.{answer_allowed, refusal_allowed, none_appended, nothing_added}
 use Rattle.mk_reply.specs.Replies.{IsRatio}
 use Rattle.mk_restore.specs.Restoring.{IsFit}
 use Rattle.mk_restore.proofs.Taken.{allowed_fits}
-use Rattle.mk_market.proofs.Together.{condition_comes}
+use Rattle.mk_asking.proofs.Together.{condition_comes}
 use Rattle.mk_replay.specs.Tills.{TillOf}
 
 -- ---- a refusal

@@ -22,7 +22,7 @@ use Rattle.mk_engine.specs.Meaning.{Meaning}
 use Rattle.mk_beliefs.specs.Meanings.{weights_of}
 use Rattle.mk_answers.specs.Open.{IsOpen, CanBeSpreadHere}
 use Rattle.mk_answers.proofs.Homes.{condition_is_held}
-use Rattle.mk_market.specs.inner.Stopped.{CanRefuseCondition}
+use Rattle.mk_asking.specs.Stopped.{CanRefuseCondition}
 use Rattle.mk_file.specs.declared.market_file.MarketFile.{MarketFile}
 use Rattle.mk_file.specs.MarketOf.{market_of}
 use Rattle.mk_command.specs.declared.command.Command.TheVariants.{Prices, Position}
@@ -45,10 +45,10 @@ use Rattle.mk_record.specs.Members.{assets_of, with_assets}
 use Rattle.mk_record.specs.Refused.{IsUser, IsSpreadQuestionFor}
 use Rattle.mk_market.specs.inner.Keeping.{IsKept, quoted, standing_of}
 use Rattle.mk_market.proofs.Growing.{kept_still}
-use Rattle.mk_market.proofs.Learnt.{holds_still}
-use Rattle.mk_market.proofs.Owned.{names_same, quotes_same, all_still}
+use Rattle.mk_asking.proofs.Learnt.{holds_still}
+use Rattle.mk_asking.proofs.Owned.{names_same, quotes_same, all_still}
 use Rattle.mk_market.proofs.Replies.{answer_allowed, refusal_allowed, stopped_by_states, unrefused}
-use Rattle.mk_market.proofs.Together.{none_together}
+use Rattle.mk_asking.proofs.Together.{none_together}
 use Rattle.mk_replay.specs.Tills.{TillOf}
 
 -- ---- questions that are not resolved

@@ -37,7 +37,8 @@ use Rattle.mk_record.specs.declared.users.Member.{Member}
 use Rattle.mk_record.specs.Journals.{JournalOf}
 use Rattle.mk_record.specs.Members.{names_of, assets_of, quotes_of}
 use Rattle.mk_market.specs.Points.{AreAccounts}
-use Rattle.mk_market.specs.inner.Keeping.{standing_of, AreHeld, IsKeptQuote, IsKept, TakesAsMuch}
+use Rattle.mk_asking.specs.Keeping.{AreHeld, IsKeptQuote, TakesAsMuch}
+use Rattle.mk_market.specs.inner.Keeping.{standing_of, IsKept}
 use Rattle.mk_replay.specs.Tills.{TillOf, room_for}
 
 -- the market of a file is one

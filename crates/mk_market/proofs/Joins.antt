@@ -26,7 +26,8 @@ use Rattle.mk_record.specs.Journals.{JournalOf}
 use Rattle.mk_record.specs.Members.{new_member, names_of, assets_of, quotes_of}
 use Rattle.mk_market.specs.Points.{ArePaidBy}
 use Rattle.mk_market.specs.Trading.{Trading, IsAnswered}
-use Rattle.mk_market.specs.inner.Keeping.{quoted, standing_of, IsKept, TakesAsMuch}
+use Rattle.mk_asking.specs.Keeping.{TakesAsMuch}
+use Rattle.mk_market.specs.inner.Keeping.{quoted, standing_of, IsKept}
 use Rattle.mk_record.proofs.Appends.{not_there}
 use Rattle.mk_market.proofs.Apart.{EachOwns, left_alone, each_owns, joined_left}
 use Rattle.mk_market.proofs.Growing.{kept_grown}

@@ -1,14 +1,10 @@
-pub mod Together
 pub mod EveryValue
 pub mod Growing
 pub mod Refiled
-pub mod Lent
 pub mod Apart
 pub mod Quotes
 pub mod Stopping
 pub mod Edited
-pub mod Judging
-pub mod TogetherSpreads
 pub mod Spreads
 pub mod StoppedSpreads
 pub mod Owned
@@ -20,11 +16,8 @@ pub mod Answers
 pub mod Weaker
 pub mod Worsts
 pub mod Openings
-pub mod Traded
 pub mod Trades
 pub mod Withdrawals
-pub mod Learnt
-pub mod Resolvable
 pub mod Resolved
 pub mod Paid
 pub mod Fitting
@@ -33,7 +26,6 @@ pub mod Homes
 pub mod TakenBack
 pub mod TradesBack
 pub mod Booked
-pub mod Retold
 pub mod Following
 pub mod Regrowing
 pub mod PaidOut

@@ -1,7 +1,7 @@
 -- A user's last quote is set.
-use Rattle.std.specs.Prelude.{◌≡◌, ℕ, ◌<◌, List, [], ◌++◌, ◌⊎◌, length, map, Option, Some, option_map, slice_get, slice_set}
-use Rattle.std.proofs.Common.{sym, ap, ap₂, ◌∙◌, subst, inl, inr, arith, append-nil}
-use Rattle.std.proofs.lemmas.List.{length-map, map-set}
+use Rattle.std.specs.Prelude.{◌≡◌, ℕ, List, [], ◌++◌, ◌⊎◌, map, Option, Some, option_map, slice_get, slice_set}
+use Rattle.std.proofs.Common.{sym, ap, ap₂, ◌∙◌, subst, inl, inr, append-nil}
+use Rattle.std.proofs.lemmas.List.{map-set}
 use Rattle.mk_net.specs.Network.{Variable}
 use Rattle.mk_exact.specs.History.{Entry, users, revision}
 use Rattle.mk_tree.specs.Given.{GivenTree}
@@ -22,9 +22,11 @@ use Rattle.mk_record.specs.declared.users.Member.{Member}
 use Rattle.mk_record.specs.Journals.{JournalOf}
 use Rattle.mk_record.specs.Members.{names_of, assets_of, quotes_of, with_quote}
 use Rattle.mk_market.specs.Trading.{Trading, LeavesOthers, IsAnswered}
-use Rattle.mk_market.specs.inner.Keeping.{quoted, standing_of, AreHeld, IsKeptQuote, AreKeptQuotes, IsKept}
+use Rattle.mk_asking.specs.Keeping.{AreHeld, IsKeptQuote, AreKeptQuotes}
+use Rattle.mk_market.specs.inner.Keeping.{quoted, standing_of, IsKept}
 use Rattle.mk_market.proofs.Apart.{each_owns}
-use Rattle.mk_market.proofs.Lent.{in_range, read_set, names_beside, assets_beside, quotes_set}
+use Rattle.mk_asking.proofs.Lent.{read_set}
+use Rattle.mk_asking.proofs.Quotes.{AreQuoted}
 use Rattle.mk_replay.specs.Tills.{TillOf}
 
 -- a market as its callers see it
@@ -46,31 +48,10 @@ each_set : (P : ℕ → LastQuote → Type 0) (user : ℕ) (quote : LastQuote) (
     → (u : ℕ) (held : LastQuote) → slice_get (slice_set qs user (Some quote)) u ≡ Some (Some held) → P u held
 each_set P user quote qs new old u held at = by (read_set qs user u (Some quote) (Some held) at)
   where
-    by : ((u ≡ user) × (Some held ≡ Some quote)) ⊎ (slice_get qs u ≡ Some (Some held)) → P u held
+    by : ((u ≡ user) × (Some held ≡ Some quote))
+        ⊎ ((u ≡ user → ⊥) × (slice_get qs u ≡ Some (Some held))) → P u held
     by (inl p) = subst (λ (n : ℕ). P n held) (sym (p.0)) (subst (P user) (sym (some_is held quote (p.1))) new)
-    by (inr e) = old u held e
-
--- users of whom one was quoted this, and whose assets are those that a history leaves
-pub record AreQuoted {A Plan : Type 0} (gains_stand : A → Meaning → Type 0) (network : List Variable) (tree : GivenTree) (H : List Entry) (members new_members : List (Member A Plan)) (user : ℕ) (quote : LastQuote) : Type 0 where
-  pub names : names_of new_members ≡ names_of members
-  pub quotes : quotes_of new_members ≡ slice_set (quotes_of members) user (Some quote)
-  pub held : AreHeld gains_stand network tree H new_members
-
--- where the quote was set beside other assets
-pub quote_was_set : {A Plan : Type 0} (gains_stand : A → Meaning → Type 0) (network : List Variable) (tree : GivenTree) (H : List Entry) (members mid new_members : List (Member A Plan)) (user : ℕ) (quote : LastQuote)
-    → names_of mid ≡ names_of members → quotes_of mid ≡ quotes_of members → AreHeld gains_stand network tree H mid
-    → user < length members → new_members ≡ with_quote mid user quote → AreQuoted gains_stand network tree H members new_members user quote
-quote_was_set {A} {Plan} gains_stand network tree H members mid new_members user quote same_names same_quotes held within set = record {
-  names = ap names_of set ∙ names_beside mid user quote ∙ same_names;
-  quotes = ap quotes_of set ∙ quotes_set mid user quote within_mid ∙ ap (λ (qs : List (Option LastQuote)). slice_set qs user (Some quote)) same_quotes;
-  held = λ u assets at.
-      held u assets (subst (λ (xs : List (Assets A Plan)). slice_get xs u ≡ Some assets) (ap assets_of set ∙ assets_beside mid user quote) at);
-}
-  where
-    within_mid : user < length mid
-    within_mid =
-        let named : length (names_of members) ≡ length members = length-map members (λ (m : Member A Plan). m.name) in
-        in_range mid (names_of members) user same_names (omega (arith, within, named))
+    by (inr p) = old u held (p.1)
 
 -- in the standing the user was quoted what the quote says
 pub quote_said : {A Plan : Type 0} (H : List Entry) (members new_members : List (Member A Plan)) (name : List ℕ) (user : ℕ) (quote : LastQuote) (said : Quoted)

@@ -51,12 +51,14 @@ use Rattle.mk_market.specs.Trading.{Trading, IsAnswered}
 use Rattle.mk_market.specs.Suited.{SuitsLonger}
 use Rattle.mk_market.specs.inner.Adding.{IsLonger, AreRegrown, HasGrown}
 use Rattle.mk_market.specs.inner.Restored.{IsTakenBack}
-use Rattle.mk_market.specs.inner.Keeping.{quoted, standing_of, IsKeptQuote, IsKept, TakesAsMuch}
+use Rattle.mk_asking.specs.Keeping.{IsKeptQuote, TakesAsMuch}
+use Rattle.mk_market.specs.inner.Keeping.{quoted, standing_of, IsKept}
 use Rattle.mk_market.proofs.Accounted.{accounts_kept}
 use Rattle.mk_market.proofs.Apart.{EachOwns, each_owns_then}
 use Rattle.mk_market.proofs.Growing.{SafeIn, quote_later}
 use Rattle.mk_market.proofs.Homes.{trades_have}
-use Rattle.mk_market.proofs.Owned.{holding_same, few_moved}
+use Rattle.mk_asking.proofs.Owned.{holding_same}
+use Rattle.mk_market.proofs.Owned.{few_moved}
 use Rattle.mk_market.proofs.Replies.{answer_allowed, refused_stays, unsettled}
 use Rattle.mk_market.proofs.TakenBack.{taken_back}
 use Rattle.mk_replay.specs.Tills.{TillOf}

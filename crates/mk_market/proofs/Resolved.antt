@@ -38,14 +38,15 @@ use Rattle.mk_record.specs.declared.users.Member.{Member}
 use Rattle.mk_record.specs.Journals.{JournalOf}
 use Rattle.mk_record.specs.Members.{quotes_of}
 use Rattle.mk_record.specs.Refused.{CanBeResolved}
-use Rattle.mk_market.specs.inner.Keeping.{quoted, standing_of, IsKept, TakesAsMuch}
-use Rattle.mk_market.specs.inner.Stopped.{CanAskOfPair}
+use Rattle.mk_asking.specs.Keeping.{TakesAsMuch}
+use Rattle.mk_market.specs.inner.Keeping.{quoted, standing_of, IsKept}
+use Rattle.mk_asking.specs.Stopped.{CanAskOfPair}
 use Rattle.mk_market.proofs.Accounted.{accounts_kept}
 use Rattle.mk_record.proofs.Appends.{not_there, not_found}
 use Rattle.mk_market.proofs.Growing.{is_open, fit_stays_safe, kept_grown, kept_still}
-use Rattle.mk_market.proofs.Owned.{holding_grows}
+use Rattle.mk_asking.proofs.Owned.{holding_grows}
 use Rattle.mk_market.proofs.Replies.{stopped_by_states, unrefused, refusal_allowed, answer_allowed, unsettled}
-use Rattle.mk_market.proofs.Resolvable.{of_one}
+use Rattle.mk_asking.proofs.Resolvable.{of_one}
 use Rattle.mk_replay.specs.Tills.{TillOf}
 
 -- what users hold then

@@ -52,11 +52,12 @@ use Rattle.mk_record.specs.Journals.{JournalOf}
 use Rattle.mk_record.specs.Members.{names_of, quotes_of}
 use Rattle.mk_market.specs.Points.{IsPaidOff, AreAccounts, ArePaidBy, SettlementPaysOff}
 use Rattle.mk_record.specs.Refused.{CanBeSettled}
-use Rattle.mk_market.specs.inner.Keeping.{quoted, standing_of, AreHeld, TakesAsMuch, IsKept}
+use Rattle.mk_asking.specs.Keeping.{AreHeld, TakesAsMuch}
+use Rattle.mk_market.specs.inner.Keeping.{quoted, standing_of, IsKept}
 use Rattle.mk_market.specs.inner.Paying.{ArePaid}
 use Rattle.mk_record.proofs.Appends.{there, not_found}
 use Rattle.mk_market.proofs.Growing.{kept_grown}
-use Rattle.mk_market.proofs.Owned.{holding_same}
+use Rattle.mk_asking.proofs.Owned.{holding_same}
 use Rattle.mk_market.proofs.Weaker.{cash_when}
 
 settled_now : (H : List Entry) (paid : List (ℕ × ℕ)) → is_settled (H ++ Settles paid ∷ []) ≡ false → ⊥

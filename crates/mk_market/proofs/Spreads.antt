@@ -1,45 +1,34 @@
 -- A user is quoted bounds, or a spread is judged by them.
-use Rattle.std.specs.Prelude.{◌≡◌, ℕ, ◌+◌, ◌≤◌, ◌==◌, List, [], ◌∷◌, ◌++◌, Bool, true, false}
+use Rattle.std.specs.Prelude.{◌≡◌, ℕ, ◌+◌, ◌==◌, List, [], ◌∷◌, ◌++◌, Bool, true, false}
 use Rattle.std.specs.Prelude.{if◌then◌else◌, length, map, All, Option, Some, None, option_map}
 use Rattle.std.specs.Prelude.{option_and_then, option_to_list, MatchOption, IsSomeAnd, Result, Ok}
-use Rattle.std.specs.Prelude.{Err, IsErrAnd, ⊤, slice_get, slice_set, slice_index, suc}
-use Rattle.std.proofs.Common.{refl, sym, ap, ap₂, ◌∙◌, subst, inl, inr, arith}
+use Rattle.std.specs.Prelude.{Err, IsErrAnd, ⊤, slice_get, slice_set}
+use Rattle.std.proofs.Common.{refl, sym, ap, ap₂, ◌∙◌, subst, inl, inr}
 use Rattle.std.proofs.lemmas.Bool.{eqb-true}
 use Rattle.std.proofs.lemmas.List.{length_push}
 use Rattle.std.proofs.lemmas.List.Elements.{All-from_recursion, recursion_from_All}
 use Rattle.std.proofs.lemmas.Option.{slice_get-map}
 use Rattle.arrayvec.specs.ArrayVec.{ArrayVec}
 use Rattle.mk_net.specs.declared.words.PairText.{PairText}
-use Rattle.mk_net.specs.Network.{Variable, sizes}
+use Rattle.mk_net.specs.Network.{Variable}
 use Rattle.mk_net.specs.Asked.{IsUnits}
 use Rattle.mk_exact.specs.History.{Entry, Trade, users, revision}
-use Rattle.mk_exact.specs.Limits.{Side}
 use Rattle.mk_states.specs.OfNetwork.{IsRatioOf}
-use Rattle.mk_exact.specs.Weight.{IsSmall}
 use Rattle.mk_states.proofs.Sums.{each_weaker}
 use Rattle.mk_spread.specs.Spreads.{SpreadAsked, spread_ratio}
 use Rattle.mk_spread.specs.Bounds.{Intervals, InsideEach}
-use Rattle.mk_spread.specs.Existing.{HasValueSides}
 use Rattle.mk_spread.specs.Laws.{AreOfValues}
-use Rattle.mk_spread.specs.Markets.{AreRightBoundsOf, IsFairList, IsValueSide, value_cannot_come}
-use Rattle.mk_spread.specs.Markets.{values_left}
-use Rattle.mk_spread.proofs.Exist.{value_sides_exist}
-use Rattle.mk_spread.proofs.Listed.{ranged_length}
-use Rattle.mk_spread.proofs.Suits.{no_side_where}
+use Rattle.mk_spread.specs.Markets.{AreRightBoundsOf, IsFairList}
 use Rattle.mk_spread.proofs.Fair.{fair_list_is_ratio, fair_list_fits}
-use Rattle.mk_spread.proofs.When.{units_when, bounds_when}
 use Rattle.mk_tree.specs.Given.{GivenTree}
 use Rattle.mk_file.specs.declared.market_file.MarketFile.{MarketFile}
 use Rattle.mk_file.specs.MarketOf.{market_of}
 use Rattle.mk_engine.specs.Meaning.{Meaning}
 use Rattle.mk_cash.specs.Accounts.{LedgerOf}
 use Rattle.mk_command.specs.declared.command.Command.TheVariants.{Bounds, Spread}
-use Rattle.mk_quote.specs.declared.side.SideBounds.{SideBounds}
 use Rattle.mk_quote.specs.declared.spread_quote.SpreadQuote.{SpreadQuote}
-use Rattle.mk_quote.specs.Values.{AreEachExact, AreRightForEach, AreFairForEach, EncloseEach}
-use Rattle.mk_quote.specs.Values.{has_no_side}
+use Rattle.mk_quote.specs.Values.{AreRightForEach, AreFairForEach}
 use Rattle.mk_quote.specs.Spreads.{question_of, revision_of, sides_of, intervals_of, IsSpreadFor}
-use Rattle.mk_quote.proofs.Suiting.{no_side_as}
 use Rattle.mk_reply.specs.declared.payments.Payment.{Payment}
 use Rattle.mk_reply.specs.declared.refusal.Refusal.{Refusal}
 use Rattle.mk_reply.specs.declared.refusal.Refusal.TheVariants.{Outside}
@@ -53,7 +42,7 @@ use Rattle.mk_rules.specs.Quotes as rules
 use Rattle.mk_rules.specs.Transcript.{OfCommand, IsAllowedFor, after}
 use Rattle.mk_rules.proofs.Ready.{spread_refused}
 use Rattle.mk_rules.proofs.Quoted.{same_spread_is}
-use Rattle.mk_answers.specs.Open.{IsOpen, AreSideBoundsFor}
+use Rattle.mk_answers.specs.Open.{IsOpen}
 use Rattle.mk_record.specs.declared.last_quote.LastQuote.{LastQuote}
 use Rattle.mk_record.specs.declared.last_quote.LastQuote.TheVariants.{Limits as LastLimits}
 use Rattle.mk_record.specs.declared.last_quote.LastQuote.TheVariants.{Bounds as LastBounds}
@@ -63,8 +52,8 @@ use Rattle.mk_record.specs.Members.{quotes_of}
 use Rattle.mk_record.specs.Refused.{IsUser, IsSpreadQuestionFor}
 use Rattle.mk_market.specs.Trading.{Trading, IsAnswered}
 use Rattle.mk_market.specs.inner.Answering.{IsAnsweredBy}
-use Rattle.mk_market.specs.inner.Keeping.{quoted, standing_of, IsKeptQuote, IsKept}
-use Rattle.mk_market.specs.inner.Quoting.{IsSpreadQuoteOf, IsOutside}
+use Rattle.mk_market.specs.inner.Keeping.{quoted, standing_of, IsKept}
+use Rattle.mk_asking.specs.Quoting.{IsSpreadQuoteOf, IsOutside}
 use Rattle.mk_market.proofs.Apart.{EachOwns, AreApart, left_alone, each_owns}
 use Rattle.mk_market.proofs.Apart.{each_owns_then, others_left}
 use Rattle.mk_market.proofs.Growing.{is_open}
@@ -73,6 +62,7 @@ use Rattle.mk_market.proofs.Replies.{answer_allowed, refusal_allowed, none_appen
 use Rattle.mk_reply.specs.Replies.{IsRatio}
 use Rattle.mk_restore.specs.Restoring.{IsFit}
 use Rattle.mk_restore.proofs.Taken.{allowed_fits}
+use Rattle.mk_asking.proofs.SpreadQuotes.{right_bounds, fair_list}
 use Rattle.mk_replay.specs.Tills.{TillOf}
 
 -- ---- a refusal
@@ -111,64 +101,10 @@ question_for file H v words condition spread same is = subst (λ (pairs : List P
 
 -- ---- a quote
 
--- bounds enclose as many sides
-enclosed_lengths : (values : List (Option SideBounds)) (sides : List (Option Side)) → EncloseEach values sides → length values ≡ length sides
-enclosed_lengths [] [] h = refl
-enclosed_lengths [] (side ∷ sides) h = absurd h
-enclosed_lengths (value ∷ values) [] h = absurd h
-enclosed_lengths (value ∷ values) (side ∷ sides) h = ap suc (enclosed_lengths values sides h.1)
-
 module _ (network : List Variable) (tree : GivenTree) (H : List Entry) (u : ℕ) (spread : SpreadAsked) (quote : SpreadQuote) (is : IsSpreadQuoteOf network tree H u spread quote) where
-  pub kept_quote : IsKeptQuote network tree H u (LastBounds quote)
-  kept_quote = record { same_user = is.same_user; not_later = omega (arith, is.at_present); current = λ same. is.current }
-
   -- as the rules see it
   pub quoted_is : quoted (LastBounds quote) ≡ record { says = rules.SpreadBounds spread (intervals_of quote); at = revision H }
   quoted_is = ap₂ (λ (s : SpreadAsked) (n : ℕ). record { says = rules.SpreadBounds s (intervals_of quote); at = n }) is.question is.at_present
-
-  -- two values are left
-  pub two_left : 2 ≤ length (values_left network H spread)
-  two_left = subst (λ (s : SpreadAsked). 2 ≤ length (values_left network H s)) is.question is.current.two_left
-
-  module _ (open_for : IsOpen network tree H) where
-    has_sides : HasValueSides network H u (question_of quote)
-    has_sides = value_sides_exist network H u (question_of quote) open_for.legal open_for.proper
-        (record { in_order = is.current.answered.in_order; two_left = is.current.two_left })
-
-    enclosed : AreSideBoundsFor (sides_of quote) (IsSmall network H) has_sides.sides
-    enclosed = is.current.bounds has_sides.sides has_sides.are_sides
-
-    -- there is a place for each value
-    pub as_many_sides : length (sides_of quote) ≡ slice_index (sizes network) spread.variable
-    as_many_sides =
-        enclosed_lengths (sides_of quote) has_sides.sides enclosed.sides
-        ∙ ranged_length (IsValueSide network H u (question_of quote)) (slice_index (sizes network) (question_of quote).variable) 0 has_sides.sides has_sides.are_sides
-        ∙ ap (λ (s : SpreadAsked). slice_index (sizes network) s.variable) is.question
-
-    -- a value without a side is one that cannot come
-    pub no_side_is : (k : ℕ) → has_no_side (sides_of quote) k ≡ value_cannot_come network H spread k
-    no_side_is k =
-        no_side_as (sides_of quote) has_sides.sides enclosed.sides k
-        ∙ sym (no_side_where network H (question_of quote) u has_sides.sides is.current.answered.in_order.in_range.variable has_sides.are_sides k)
-        ∙ ap (λ (s : SpreadAsked). value_cannot_come network H s k) is.question
-
-    -- its bounds are right
-    pub right_bounds : (intervals : Intervals) → AreRightForEach (sides_of quote) intervals → AreRightBoundsOf network H u spread intervals
-    right_bounds intervals right =
-        subst (λ (s : SpreadAsked). AreRightBoundsOf network H u s intervals) is.question (record {
-          sides = has_sides.sides;
-          are_sides = has_sides.are_sides;
-          right = bounds_when (IsSmall network H) (AreEachExact (sides_of quote)) enclosed.exact has_sides.sides intervals (right has_sides.sides enclosed.sides enclosed.graded);
-        })
-
-    -- and the units that it gives are a fair list
-    pub fair_list : (Xs Fs : List ℕ) → AreFairForEach (sides_of quote) Xs Fs → IsFairList network H u spread Xs Fs
-    fair_list Xs Fs fair =
-        subst (λ (s : SpreadAsked). IsFairList network H u s Xs Fs) is.question (record {
-          sides = has_sides.sides;
-          are_sides = has_sides.are_sides;
-          units = units_when (IsSmall network H) (AreEachExact (sides_of quote)) enclosed.exact has_sides.sides Xs Fs (fair has_sides.sides enclosed.sides enclosed.graded);
-        })
 
 -- ---- bounds in the standing
 

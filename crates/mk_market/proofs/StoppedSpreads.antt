@@ -1,19 +1,16 @@
 -- What stops a spread is refused, and leaves the market.
-use Rattle.std.specs.Prelude.{◌≡◌, ℕ, ◌+◌, ◌≤◌, ◌<◌, List, [], ◌∷◌, length, find, slice_index, Bool, true, false, Option, Some, None, option_map}
-use Rattle.std.specs.List.{enumerate_from}
-use Rattle.std.proofs.Common.{cond, sym, ap, ap₂, ◌∙◌, subst, arith}
+use Rattle.std.specs.Prelude.{◌≡◌, ℕ, List, [], ◌∷◌, length, find, slice_index, Option, Some, None}
+use Rattle.std.proofs.Common.{sym, ap, ◌∙◌, subst}
 use Rattle.arrayvec.specs.ArrayVec.{ArrayVec}
 use Rattle.mk_net.specs.declared.words.PairText.{PairText}
-use Rattle.mk_net.specs.Firsts.{fault_if, first_of}
+use Rattle.mk_net.specs.Firsts.{first_of}
 use Rattle.mk_net.specs.Network.{Variable, sizes}
-use Rattle.mk_exact.specs.History.{Entry, users}
+use Rattle.mk_exact.specs.History.{users}
 use Rattle.mk_spread.specs.Bounds.{InsideEach}
-use Rattle.mk_spread.specs.Markets.{values_left}
 use Rattle.mk_spread.specs.Spreads.{SpreadAsked, asked_of}
 use Rattle.mk_quote.specs.Questions.{spread_in}
 use Rattle.mk_net.specs.Events.{pairs_asked}
 use Rattle.mk_record.specs.declared.requests.SpreadRequest.{SpreadRequest}
-use Rattle.mk_spread.proofs.Suits.{is_impossible}
 use Rattle.mk_tree.specs.Given.{GivenTree, home}
 use Rattle.mk_file.specs.declared.market_file.MarketFile.{MarketFile}
 use Rattle.mk_file.specs.MarketOf.{market_of}
@@ -22,110 +19,37 @@ use Rattle.mk_beliefs.specs.Meanings.{weights_of}
 use Rattle.mk_cash.specs.Accounts.{LedgerOf}
 use Rattle.mk_command.specs.declared.command.Command.TheVariants.{Bounds, Spread}
 use Rattle.mk_quote.specs.declared.spread_quote.SpreadQuote.{SpreadQuote}
-use Rattle.mk_quote.specs.Spreads.{sides_of, intervals_of}
-use Rattle.mk_quote.specs.Values.{has_no_side, impossible_share_in, misses_share_in}
+use Rattle.mk_quote.specs.Spreads.{intervals_of}
 use Rattle.mk_reply.specs.declared.payments.Payment.{Payment}
 use Rattle.mk_reply.specs.declared.refusal.Refusal.{Refusal}
-use Rattle.mk_reply.specs.declared.refusal.Refusal.TheVariants.{Impossible, Range}
 use Rattle.mk_reply.specs.declared.reply.Reply.TheVariants.{Refused}
-use Rattle.mk_rules.specs.Refusals.{spread_named, unknown, refusals_by_record, first_refusal, pair_with, impossible_together, sure_value, impossible_share, missing_share}
+use Rattle.mk_rules.specs.Refusals.{unknown, refusals_by_record, first_refusal, impossible_together, sure_value, impossible_share, missing_share}
 use Rattle.mk_rules.proofs.Spreadable.{as_many_shares}
 use Rattle.mk_rules.proofs.Unrefused.{none_applies}
 use Rattle.mk_answers.specs.Open.{IsOpen}
-use Rattle.mk_record.specs.declared.last_quote.LastQuote.{LastQuote}
 use Rattle.mk_record.specs.declared.last_quote.LastQuote.TheVariants.{Bounds as LastBounds}
-use Rattle.mk_market.specs.declared.possible.SpreadDecided.{SpreadDecided}
-use Rattle.mk_market.specs.declared.possible.SpreadDecided.TheVariants as decided
-use Rattle.mk_market.specs.declared.possible.Stopped.{Stopped}
-use Rattle.mk_market.specs.declared.possible.Stopped.TheVariants as stopped
+use Rattle.mk_asking.specs.declared.possible.SpreadDecided.{SpreadDecided}
+use Rattle.mk_asking.specs.declared.possible.Stopped.{Stopped}
+use Rattle.mk_asking.specs.declared.possible.Stopped.TheVariants as stopped
 use Rattle.mk_record.specs.declared.users.Member.{Member}
 use Rattle.mk_record.specs.Journals.{JournalOf}
 use Rattle.mk_record.specs.Members.{names_of, quotes_of}
 use Rattle.mk_record.specs.Refused.{IsUser, IsSpreadQuestionFor}
 use Rattle.mk_market.specs.Trading.{IsAnswered}
-use Rattle.mk_market.specs.inner.Keeping.{AreHeld, AreKeptQuotes, IsKept}
-use Rattle.mk_market.specs.inner.Quoting.{IsSpreadQuoteOf, IsTurnedDown}
-use Rattle.mk_market.specs.inner.Stopped.{IsSpreadDecidedBy, IsRefusedFor, MayStop, CanRefuseSpread}
+use Rattle.mk_asking.specs.Keeping.{AreHeld, AreKeptQuotes}
+use Rattle.mk_market.specs.inner.Keeping.{IsKept}
+use Rattle.mk_asking.specs.Quoting.{IsSpreadQuoteOf, IsTurnedDown}
+use Rattle.mk_asking.specs.Stopped.{IsSpreadDecidedBy, IsRefusedFor, MayStop, CanRefuseSpread}
 use Rattle.mk_market.proofs.Growing.{is_open}
 use Rattle.mk_market.proofs.Apart.{AreApart, each_owns, others_left}
 use Rattle.mk_market.proofs.Quotes.{trading, kept_quoted, answered_before}
 use Rattle.mk_market.proofs.Replies.{refused_answered, stopped_by_states, unrefused}
-use Rattle.mk_market.proofs.Spreads.{refused_answered as spread_refused, kept_quote, two_left}
-use Rattle.mk_market.proofs.Spreads.{no_side_is, outside_answered}
-use Rattle.mk_market.proofs.TogetherSpreads.{together_left, sure_is, not_sure, impossible_by, missing_by, inside_is_placed}
+use Rattle.mk_asking.proofs.SpreadQuotes.{kept_quote}
+use Rattle.mk_asking.proofs.StoppedSpreads.{decided_first, undecided, impossible_first}
+use Rattle.mk_asking.proofs.StoppedSpreads.{missing_first, none_first, inside_first}
+use Rattle.mk_market.proofs.Spreads.{refused_answered as spread_refused}
+use Rattle.mk_market.proofs.Spreads.{outside_answered}
 use Rattle.mk_replay.specs.Tills.{TillOf}
-
--- ---- the first refusal by what can come
-
-module _ (network : List Variable) (tree : GivenTree) (H : List Entry) (v : List ℕ) (words : List PairText) (spread : SpreadAsked) (named : spread_named network v words ≡ Some spread) where
-  -- what decides a distribution
-  pub decided_first : (why : SpreadDecided) (found : Refusal) (later : List (Option Refusal)) → IsSpreadDecidedBy network H spread why
-      → IsRefusedFor network H v words spread (stopped.Decided why) found → first_of (impossible_together network H words ∷ sure_value network H v words ∷ later) ≡ Some found
-  decided_first decided.Impossible found later by is = ap (λ (o : Option Refusal). first_of (o ∷ sure_value network H v words ∷ later)) is
-  decided_first (decided.Sure value) found later by is =
-      let one : length (values_left network H spread) ≡ 1 = ap length by in
-      ap₂ (λ (a b : Option Refusal). first_of (a ∷ b ∷ later)) (together_left network H v words spread named (omega (arith, one))) (sure_is network H v words spread named value by)
-      ∙ ap (λ (w : Refusal). Some w) (sym is)
-
-  module _ (open_for : IsOpen network tree H) (u : ℕ) (quote : SpreadQuote) (is : IsSpreadQuoteOf network tree H u spread quote) where
-    -- nothing decides one that has a quote
-    two : 2 ≤ length (values_left network H spread)
-    two = two_left network tree H u spread quote is
-
-    pub undecided : (later : List (Option Refusal)) → first_of (impossible_together network H words ∷ sure_value network H v words ∷ later) ≡ first_of later
-    undecided later =
-        ap₂ (λ (a b : Option Refusal). first_of (a ∷ b ∷ later)) (together_left network H v words spread named (omega (arith, two))) (not_sure network H v words spread named two)
-
-    -- where its shares stand at the wrong places that is the first
-    module _ (to : List ℕ) where
-      abbrev by_states : List (Option Refusal)
-      by_states = impossible_together network H words ∷ sure_value network H v words ∷ impossible_share network H v words to ∷ missing_share network H v words to ∷ []
-
-      abbrev at_places : Option ℕ → Option Refusal → Option Refusal
-      at_places impossible missing = first_of (option_map (λ value. Impossible (pair_with network v spread value)) impossible ∷ missing ∷ [])
-
-      first_at : first_of by_states ≡ at_places (impossible_share_in (sides_of quote) to) (fault_if (misses_share_in (sides_of quote) to) (Range 0))
-      first_at =
-          undecided (impossible_share network H v words to ∷ missing_share network H v words to ∷ [])
-          ∙ ap₂ (λ (a b : Option Refusal). first_of (a ∷ b ∷ []))
-          (impossible_by network H v words spread named (sides_of quote) (no_side_is network tree H u spread quote is open_for) to)
-          (missing_by network H v words spread named (sides_of quote) (no_side_is network tree H u spread quote is open_for) to)
-
-      pub impossible_first : (value : ℕ) → impossible_share_in (sides_of quote) to ≡ Some value → first_of by_states ≡ Some (Impossible (pair_with network v spread value))
-      impossible_first value e = first_at ∙ ap (λ (o : Option ℕ). at_places o (fault_if (misses_share_in (sides_of quote) to) (Range 0))) e
-
-      pub missing_first : impossible_share_in (sides_of quote) to ≡ None → misses_share_in (sides_of quote) to ≡ true → first_of by_states ≡ Some (Range 0)
-      missing_first none e = first_at ∙ ap₂ (λ (o : Option ℕ) (b : Bool). at_places o (fault_if b (Range 0))) none e
-
-      pub none_first : impossible_share_in (sides_of quote) to ≡ None → misses_share_in (sides_of quote) to ≡ false → first_of by_states ≡ None
-      none_first none e = first_at ∙ ap₂ (λ (o : Option ℕ) (b : Bool). at_places o (fault_if b (Range 0))) none e
-
-      -- shares inside of its intervals meet none
-      pub inside_first : InsideEach (intervals_of quote) to → first_of by_states ≡ None
-      inside_first inside = let both = inside_is_placed (sides_of quote) to inside in none_first (both.0) (both.1)
-
--- ---- what may stop a spread
-
-pub first_below : (test : ℕ × ℕ → Bool) (a : ℕ) (Xs : List ℕ) (value : ℕ) → option_map (λ (numbered : ℕ × ℕ). numbered.0) (find test (enumerate_from a Xs)) ≡ Some value → value < a + length Xs
-first_below test a [] value e = cc
-first_below test a (X ∷ Xs) value e = at (test (a, X)) e (first_below test (a + 1) Xs value)
-  where
-    at : (b : Bool) → option_map (λ (numbered : ℕ × ℕ). numbered.0) (cond b (Some (a, X)) (find test (enumerate_from (a + 1) Xs))) ≡ Some value
-        → (option_map (λ (numbered : ℕ × ℕ). numbered.0) (find test (enumerate_from (a + 1) Xs)) ≡ Some value → value < a + 1 + length Xs) → value < a + length (X ∷ Xs)
-    at true e later = let same : a ≡ value = cc in omega (arith, same)
-    at false e later = let below = later e in omega (arith, below)
-
-module _ (network : List Variable) (tree : GivenTree) (H : List Entry) (u : ℕ) (spread : SpreadAsked) (quotes new_quotes : List (Option LastQuote)) (Xs : List ℕ)
-    (one_each : length Xs ≡ slice_index (sizes network) spread.variable) where
-  pub turned_may_stop : (why : Stopped) → IsTurnedDown network tree H u spread quotes new_quotes Xs why → MayStop network H spread why
-  turned_may_stop (stopped.Decided why) down = down.decided
-  turned_may_stop (stopped.ImpossibleShare value) down =
-      let below : value < 0 + length Xs = first_below (is_impossible (has_no_side (sides_of down.quote))) 0 Xs value down.is_stopped in
-      omega (arith, below, one_each)
-  turned_may_stop stopped.MissingShare down = tt
-  turned_may_stop (stopped.Outside box) down = tt
-
--- ---- the market
 
 module _ {P A Plan : Type 0} (weights_stand : P → Meaning → Type 0) (gains_stand : A → Meaning → Type 0) (plan_for : Plan → List Variable → GivenTree → Type 0)
     (file : MarketFile) (prices : P) (rows : A) (plan : Plan) (members : List (Member A Plan)) (ledger : LedgerOf) (journal : JournalOf)

@@ -23,12 +23,13 @@ use Rattle.mk_record.specs.declared.last_quote.LastQuote.{LastQuote}
 use Rattle.mk_record.specs.declared.users.Member.{Member}
 use Rattle.mk_record.specs.Journals.{JournalOf}
 use Rattle.mk_record.specs.Members.{names_of, quotes_of}
-use Rattle.mk_market.specs.inner.Keeping.{standing_of, AreHeld, IsKept, TakesAsMuch}
-use Rattle.mk_market.specs.inner.Quoting.{AreInUse, CanBeMade}
+use Rattle.mk_asking.specs.Keeping.{AreHeld, TakesAsMuch}
+use Rattle.mk_market.specs.inner.Keeping.{standing_of, IsKept}
+use Rattle.mk_asking.specs.Quoting.{AreInUse, CanBeMade}
 use Rattle.mk_market.proofs.Accounted.{accounts_kept}
 use Rattle.mk_record.proofs.Appends.{not_there, not_found}
 use Rattle.mk_market.proofs.Growing.{is_open, kept_grown}
-use Rattle.mk_market.proofs.Lent.{in_range}
+use Rattle.mk_asking.proofs.Lent.{in_range}
 use Rattle.mk_replay.specs.Tills.{TillOf}
 
 module _ {P A Plan : Type 0} (weights_stand : P → Meaning → Type 0) (gains_stand : A → Meaning → Type 0) (plan_for : Plan → List Variable → GivenTree → Type 0)

@@ -40,12 +40,14 @@ use Rattle.mk_record.specs.Journals.{JournalOf}
 use Rattle.mk_record.specs.Members.{assets_of, quotes_of, with_assets}
 use Rattle.mk_market.specs.Points.{IsAccount, ArePaidBy}
 use Rattle.mk_record.specs.Refused.{IsUser, HasRoomForTransfer}
-use Rattle.mk_market.specs.inner.Keeping.{quoted, standing_of, IsKept, TakesAsMuch}
-use Rattle.mk_market.specs.inner.Quoting.{OwnsAt}
+use Rattle.mk_asking.specs.Keeping.{TakesAsMuch}
+use Rattle.mk_market.specs.inner.Keeping.{quoted, standing_of, IsKept}
+use Rattle.mk_asking.specs.Quoting.{OwnsAt}
 use Rattle.mk_record.proofs.Appends.{not_there, not_found}
 use Rattle.mk_market.proofs.Growing.{is_open, kept_grown}
-use Rattle.mk_market.proofs.Learnt.{holds_still}
-use Rattle.mk_market.proofs.Owned.{names_same, quotes_same, held_one, withdrawal_holding}
+use Rattle.mk_asking.proofs.Learnt.{holds_still}
+use Rattle.mk_asking.proofs.Owned.{names_same, quotes_same, held_one}
+use Rattle.mk_market.proofs.Owned.{withdrawal_holding}
 use Rattle.mk_market.proofs.Owned.{withdrawal_others, few_moved}
 use Rattle.mk_market.proofs.Accounted.{paid_set, accounts_withdrawn}
 use Rattle.mk_market.proofs.Replies.{answer_allowed, none_appended, unsettled}

@@ -35,10 +35,10 @@ use Rattle.mk_record.specs.Journals.{JournalOf}
 use Rattle.mk_record.specs.Members.{assets_of, with_assets}
 use Rattle.mk_record.specs.Refused.{IsUser}
 use Rattle.mk_market.specs.inner.Keeping.{quoted, standing_of, IsKept}
-use Rattle.mk_market.specs.inner.Quoting.{OwnsAt}
+use Rattle.mk_asking.specs.Quoting.{OwnsAt}
 use Rattle.mk_market.proofs.Growing.{is_open, kept_still}
-use Rattle.mk_market.proofs.Learnt.{holds_still}
-use Rattle.mk_market.proofs.Owned.{names_same, quotes_same, all_still}
+use Rattle.mk_asking.proofs.Learnt.{holds_still}
+use Rattle.mk_asking.proofs.Owned.{names_same, quotes_same, all_still}
 use Rattle.mk_market.proofs.Replies.{answer_allowed, none_appended}
 use Rattle.mk_market.proofs.Weaker.{cash_when}
 use Rattle.mk_replay.specs.Tills.{TillOf}

@@ -2,8 +2,6 @@
 
 use crate::market::Market;
 use crate::restoring::RestoreFault;
-use crate::stored::tells_addition;
-use crate::wording::has_text;
 use mk_addition::AddText;
 use mk_admission::{added_question, clique_set, refuse_add};
 use mk_assets::Assets;
@@ -15,6 +13,7 @@ use mk_record::Journal;
 use mk_replay::{assets_of_each, engine_after, rows_after};
 use mk_reply::{Refusal, Reply};
 use mk_semiring::{MinProd, SumProd};
+use mk_told::{has_text, tells_addition};
 use std::alloc::Global;
 
 /// What a market becomes by one question more: its file, the engines over the longer network and

@@ -1,9 +1,7 @@
 //! Edits of questions, and their limits.
 
 use crate::market::Market;
-use crate::possible::refuse_decided;
-use crate::quoting::{fresh_quote, present_quote};
-use crate::trading::{ratio_of_edit, trade};
+use mk_asking::{fresh_quote, present_quote, ratio_of_edit, refuse_decided, trade};
 use mk_engine::Engine;
 use mk_net::{Name, QuestionText};
 use mk_record::{EditWish, LastQuote, refuse_edit, refuse_limits};

@@ -1,9 +1,8 @@
 //! What a question is worth, what a user is worth at least, and what the operator can lose at most.
 
-use crate::learning::learn;
 use crate::market::Market;
-use crate::possible::refuse_condition;
 use mk_answers::{bound_of, least_of, price_of};
+use mk_asking::{learn, refuse_condition};
 use mk_cash::cash;
 use mk_engine::Engine;
 use mk_net::{Name, QuestionText};

@@ -1,7 +1,7 @@
 //! Resolutions.
 
 use crate::market::Market;
-use crate::possible::can_come;
+use mk_asking::can_come;
 use mk_engine::Engine;
 use mk_file::MarketFile;
 use mk_net::{Pair, PairText};

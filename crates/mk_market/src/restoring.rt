@@ -1,9 +1,8 @@
 //! Taking back the changes that a store gives.
 
 use crate::market::Market;
-use crate::possible::can_come;
 use crate::resolving::home_of;
-use crate::stored::{tells_deposit, tells_join, tells_resolution, tells_withdrawal};
+use mk_asking::can_come;
 use mk_assets::Assets;
 use mk_command::CommandRef;
 use mk_engine::Engine;
@@ -11,6 +10,7 @@ use mk_net::{Name, PairText};
 use mk_record::{EditWish, SpreadWish, refuse_resolve, refuse_transfer, refuse_user};
 use mk_reply::{Refusal, Reply};
 use mk_semiring::{MinProd, SumProd};
+use mk_told::{tells_deposit, tells_join, tells_resolution, tells_withdrawal};
 use std::alloc::Global;
 
 /// Why a change is not taken back.

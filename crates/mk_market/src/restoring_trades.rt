@@ -3,13 +3,13 @@
 use crate::market::Market;
 use crate::restoring::RestoreFault;
 use crate::settling::{MAX_LISTED, book, list, pay_all_by_rule};
-use crate::stored::{tells_total, told_factors, told_payments, told_units};
-use crate::trading::{ratio_of_edit, ratio_of_spread, trade};
+use mk_asking::{ratio_of_edit, ratio_of_spread, trade};
 use mk_engine::Engine;
 use mk_net::Name;
 use mk_record::{EditWish, SpreadWish, refuse_edit, refuse_settle, refuse_spread};
 use mk_reply::Reply;
 use mk_semiring::{MinProd, SumProd};
+use mk_told::{tells_total, told_factors, told_payments, told_units};
 
 impl<P: Engine<SumProd>, A: Engine<MinProd>> Market<P, A> {
     ghost use Rattle.mk_command.specs.declared.command.Command.TheVariants.{Edit, Spread, Settle};

@@ -1,10 +1,10 @@
 //! Spreads over the values of a variable, and their bounds.
 
 use crate::market::Market;
-use crate::possible::{Stopped, refuse_stopped};
-use crate::spread_quoting::{fresh_spread_quote, judge_spread};
-use crate::trading::{ratio_of_spread, trade};
 use arrayvec::ArrayVec;
+use mk_asking::{
+    Stopped, fresh_spread_quote, judge_spread, ratio_of_spread, refuse_stopped, trade,
+};
 use mk_engine::Engine;
 use mk_net::{Name, PairText};
 use mk_record::{LastQuote, SpreadWish, refuse_bounds, refuse_spread};

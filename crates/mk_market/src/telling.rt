@@ -1,10 +1,9 @@
 //! What a market tells of every value of a variable, and of itself.
 
-use crate::learning::learn;
 use crate::market::Market;
-use crate::possible::refuse_condition;
 use arrayvec::ArrayVec;
 use mk_answers::{position_of, prices_of};
+use mk_asking::{learn, refuse_condition};
 use mk_engine::Engine;
 use mk_net::{Name, PairText};
 use mk_record::{Journal, not_settled, refuse_bounds, refuse_prices};

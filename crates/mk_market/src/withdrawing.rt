@@ -1,8 +1,8 @@
 //! Withdrawals.
 
-use crate::learning::learn;
 use crate::market::Market;
 use mk_answers::{least_of, most_bits};
+use mk_asking::learn;
 use mk_engine::Engine;
 use mk_net::Name;
 use mk_record::refuse_transfer;

@@ -9,7 +9,7 @@ use mk_addition::AddText;
 use mk_engine::Engine;
 use mk_evidence::{refused_addition, refused_deposit, refused_join, refused_resolution};
 use mk_judge::Judged;
-use mk_market::{Market, has_text};
+use mk_market::Market;
 use mk_net::{Name, PairText};
 use mk_reply::{Refusal, Reply};
 use mk_semiring::{MinProd, SumProd};
@@ -88,7 +88,7 @@ fn tells_addition<P: Engine<SumProd>, A: Engine<MinProd>>(
 {
     match reply {
         Reply::Added { variable, at } => {
-            has_text(add) && *variable == add.variable && is_next(market, *at)
+            mk_told::has_text(add) && *variable == add.variable && is_next(market, *at)
         }
         Reply::Refused { why } => matches!(why, Refusal::Memory),
         _ => false,

@@ -24,11 +24,11 @@ use Rattle.mk_answers.specs.Results.{AreBothLeft}
 use Rattle.mk_record.specs.declared.requests.Request.{Request}
 use Rattle.mk_record.specs.declared.requests.SpreadRequest.{SpreadRequest}
 use Rattle.mk_record.specs.declared.users.Member.{Member}
-use Rattle.mk_market.specs.declared.possible.Stopped.{Stopped}
-use Rattle.mk_market.specs.declared.possible.Stopped.TheVariants.{Decided, ImpossibleShare}
-use Rattle.mk_market.specs.declared.possible.Stopped.TheVariants.{MissingShare, Outside}
-use Rattle.mk_market.specs.inner.Quoting.{AreInUse, IsSpreadQuoteOf}
-use Rattle.mk_market.specs.inner.Stopped.{IsSpreadDecidedBy}
+use Rattle.mk_asking.specs.declared.possible.Stopped.{Stopped}
+use Rattle.mk_asking.specs.declared.possible.Stopped.TheVariants.{Decided, ImpossibleShare}
+use Rattle.mk_asking.specs.declared.possible.Stopped.TheVariants.{MissingShare, Outside}
+use Rattle.mk_asking.specs.Quoting.{AreInUse, IsSpreadQuoteOf}
+use Rattle.mk_asking.specs.Stopped.{IsSpreadDecidedBy}
 
 -- both sides of a question can come, and the bounds are theirs
 pub record AreBothFound (most : ℕ) (network : List Variable) (H : List Entry) (u : ℕ)

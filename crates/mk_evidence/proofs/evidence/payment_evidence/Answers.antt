@@ -8,8 +8,8 @@ use Rattle.mk_evidence.proofs.Grading.{gain_within}
 use Rattle.mk_evidence.proofs.Evidenced.{only_asked, payment_found}
 use Rattle.mk_market.proofs.EveryValue.{position_kept}
 use Rattle.mk_market.proofs.Growing.{is_open}
-use Rattle.mk_market.proofs.Lent.{in_range}
-use Rattle.mk_market.proofs.Owned.{quotes_same}
+use Rattle.mk_asking.proofs.Lent.{in_range}
+use Rattle.mk_asking.proofs.Owned.{quotes_same}
 use Rattle.mk_market.proofs.Quotes.{kept_unquoted}
 use Rattle.mk_evidence.proofs.evidence.payment_evidence.Goals as goal
 

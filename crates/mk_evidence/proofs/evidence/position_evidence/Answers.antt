@@ -6,7 +6,7 @@ use Rattle.mk_quote.specs.Questions.{spread_in}
 use Rattle.mk_rules.specs.Refusals.{refusals_by_record, impossible_together}
 use Rattle.mk_rules.proofs.Unrefused.{none_applies}
 use Rattle.mk_rules.proofs.Spreads.{spread_parts}
-use Rattle.mk_market.specs.inner.Stopped.{IsConditionBy}
+use Rattle.mk_asking.specs.Stopped.{IsConditionBy}
 use Rattle.mk_beliefs.specs.Meanings.{gains_of}
 use Rattle.mk_evidence.specs.Grades.{evidence_grade}
 use Rattle.mk_evidence.proofs.Grading.{gain_within}
@@ -14,8 +14,8 @@ use Rattle.mk_evidence.proofs.Evidenced.{asked_refused, only_asked, position_fou
 use Rattle.mk_evidence.proofs.Evidenced.{position_stopped}
 use Rattle.mk_market.proofs.EveryValue.{can_refuse_told, known_of, position_kept}
 use Rattle.mk_market.proofs.Growing.{is_open}
-use Rattle.mk_market.proofs.Lent.{in_range}
-use Rattle.mk_market.proofs.Owned.{quotes_same}
+use Rattle.mk_asking.proofs.Lent.{in_range}
+use Rattle.mk_asking.proofs.Owned.{quotes_same}
 use Rattle.mk_market.proofs.Quotes.{kept_unquoted}
 use Rattle.mk_market.proofs.Refiled.{refiled}
 use Rattle.mk_market.proofs.Replies.{by_record}

@@ -15,7 +15,8 @@ use Rattle.mk_evidence.proofs.Evidenced.{asked_refused, asked_in, stopped_in}
 use Rattle.mk_evidence.proofs.Evidenced.{price_found, price_stopped}
 use Rattle.mk_market.proofs.Growing.{is_open}
 use Rattle.mk_market.proofs.Replies.{by_record}
-use Rattle.mk_market.proofs.Stopping.{price_known, can_refuse_condition, impossible_by}
+use Rattle.mk_asking.proofs.Stopping.{can_refuse_condition, impossible_by}
+use Rattle.mk_market.proofs.Stopping.{price_known}
 use Rattle.mk_evidence.proofs.evidence.price_evidence.Goals as goal
 
 pub returns-in_err-asked-clause-evidence : goal.returns-in_err-asked-clause-evidence

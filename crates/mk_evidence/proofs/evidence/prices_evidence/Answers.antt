@@ -6,7 +6,7 @@ use Rattle.mk_quote.specs.Questions.{spread_in}
 use Rattle.mk_rules.specs.Refusals.{refusals_by_record, impossible_together}
 use Rattle.mk_rules.proofs.Unrefused.{none_applies}
 use Rattle.mk_rules.proofs.Spreads.{spread_parts}
-use Rattle.mk_market.specs.inner.Stopped.{IsConditionBy}
+use Rattle.mk_asking.specs.Stopped.{IsConditionBy}
 use Rattle.mk_answers.specs.Evidence.{grade_together}
 use Rattle.mk_evidence.specs.Grades.{evidence_grade}
 use Rattle.mk_evidence.proofs.Grading.{weights_within}

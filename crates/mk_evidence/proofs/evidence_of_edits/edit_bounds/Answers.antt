@@ -1,7 +1,7 @@
 use Rattle.std.proofs.Common.{◌∙◌}
 use Rattle.mk_tree.proofs.Held.{home_is_held}
-use Rattle.mk_market.proofs.Learnt.{held_asked, still_in_range}
-use Rattle.mk_market.proofs.Lent.{names_stay, quotes_stay}
+use Rattle.mk_asking.proofs.Learnt.{held_asked, still_in_range}
+use Rattle.mk_asking.proofs.Lent.{names_stay, quotes_stay}
 use Rattle.mk_beliefs.specs.Meanings.{weights_of, gains_of}
 use Rattle.mk_file.specs.MarketOf.{market_of}
 use Rattle.mk_evidence.specs.Grades.{evidence_grade}

@@ -10,7 +10,7 @@ use Rattle.mk_evidence.specs.Evidence.{IsEditEvidence}
 use Rattle.mk_evidence.proofs.Evidenced.{asked_refused, asked_in, stopped_in, only_asked}
 use Rattle.mk_evidence.proofs.Evidenced.{edit_found}
 use Rattle.mk_market.proofs.Growing.{is_open}
-use Rattle.mk_market.proofs.Lent.{in_range}
+use Rattle.mk_asking.proofs.Lent.{in_range}
 use Rattle.mk_market.proofs.Quotes.{kept_unquoted}
 use Rattle.mk_market.proofs.Replies.{by_record, stopped_by_states}
 use Rattle.mk_market.proofs.Stopping.{limits_known, limits_unrefused}

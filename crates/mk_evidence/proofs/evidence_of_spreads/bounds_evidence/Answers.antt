@@ -4,17 +4,18 @@ use Rattle.mk_net.specs.declared.words.PairText.{PairText}
 use Rattle.mk_file.specs.MarketOf.{market_of}
 use Rattle.mk_command.specs.declared.command.Command.TheVariants.{Bounds}
 use Rattle.mk_quote.specs.Questions.{spread_in}
-use Rattle.mk_market.specs.declared.possible.Stopped.TheVariants.{Decided}
-use Rattle.mk_market.specs.inner.Stopped.{IsRefusedFor}
+use Rattle.mk_asking.specs.declared.possible.Stopped.TheVariants.{Decided}
+use Rattle.mk_asking.specs.Stopped.{IsRefusedFor}
 use Rattle.mk_evidence.proofs.Evidenced.{asked_refused, only_asked, spread_found}
 use Rattle.mk_evidence.proofs.EvidencedSpreads.{two_first}
 use Rattle.mk_market.proofs.Growing.{is_open}
-use Rattle.mk_market.proofs.Lent.{in_range}
+use Rattle.mk_asking.proofs.Lent.{in_range}
 use Rattle.mk_market.proofs.Quotes.{kept_unquoted}
 use Rattle.mk_market.proofs.Refiled.{refiled}
 use Rattle.mk_market.proofs.Replies.{by_record, stopped_by_states, unrefused}
 use Rattle.mk_market.proofs.Spreads.{question_for}
-use Rattle.mk_market.proofs.StoppedSpreads.{can_refuse, bounds_known, decided_first}
+use Rattle.mk_asking.proofs.StoppedSpreads.{decided_first}
+use Rattle.mk_market.proofs.StoppedSpreads.{can_refuse, bounds_known}
 use Rattle.mk_market.proofs.Trades.{in_use}
 use Rattle.mk_evidence.proofs.evidence_of_spreads.bounds_evidence.Goals as goal
 

@@ -7,11 +7,11 @@ use Rattle.mk_command.specs.declared.command.Command.TheVariants.{Spread}
 use Rattle.mk_quote.specs.Questions.{spread_in}
 use Rattle.mk_evidence.specs.Grades.{evidence_grade}
 use Rattle.mk_evidence.specs.inner.Finding.{ArePlacedBounds, IsStoppedAnew}
-use Rattle.mk_market.specs.inner.Stopped.{IsRefusedFor}
+use Rattle.mk_asking.specs.Stopped.{IsRefusedFor}
 use Rattle.mk_evidence.proofs.Evidenced.{asked_refused, only_asked, spread_found}
 use Rattle.mk_evidence.proofs.EvidencedSpreads.{placed_first, stopped_first, anew_may_stop}
 use Rattle.mk_market.proofs.Growing.{is_open}
-use Rattle.mk_market.proofs.Lent.{in_range}
+use Rattle.mk_asking.proofs.Lent.{in_range}
 use Rattle.mk_market.proofs.Quotes.{kept_unquoted}
 use Rattle.mk_market.proofs.Refiled.{refiled}
 use Rattle.mk_market.proofs.Replies.{by_record, stopped_by_states, unrefused}

@@ -1,7 +1,7 @@
 use Rattle.std.proofs.Common.{◌≡◌, ◌∙◌, true, false, sym}
 use Rattle.std.specs.Prelude.{◌+◌}
 use Rattle.mk_exact.specs.History.{revision}
-use Rattle.mk_market.proofs.Retold.{added_again, another_added}
+use Rattle.mk_told.proofs.Retold.{added_again, another_added}
 use Rattle.mk_verify.proofs.ByWords.{added_or_memory, added_without_text}
 use Rattle.mk_verify.proofs.plain.tells_addition.Goals.{then-has_text, else-has_text}
 use Rattle.mk_verify.proofs.plain.tells_addition.Goals as goal

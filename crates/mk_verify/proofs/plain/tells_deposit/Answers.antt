@@ -1,6 +1,6 @@
 use Rattle.std.specs.Prelude.{◌+◌}
 use Rattle.mk_exact.specs.History.{revision}
-use Rattle.mk_market.proofs.Retold.{deposited_again, deposited_by_another}
+use Rattle.mk_told.proofs.Retold.{deposited_again, deposited_by_another}
 use Rattle.mk_verify.proofs.plain.tells_deposit.Goals as goal
 
 pub returns-then-eq : goal.returns-then-eq

@@ -1,6 +1,6 @@
 use Rattle.std.specs.Prelude.{◌+◌}
 use Rattle.mk_exact.specs.History.{revision}
-use Rattle.mk_market.proofs.Retold.{joined_again, joined_by_another}
+use Rattle.mk_told.proofs.Retold.{joined_again, joined_by_another}
 use Rattle.mk_verify.proofs.ByWords.{or_memory}
 use Rattle.mk_verify.proofs.plain.tells_join.Goals as goal
 

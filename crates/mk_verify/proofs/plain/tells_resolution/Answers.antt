@@ -1,6 +1,6 @@
 use Rattle.std.specs.Prelude.{◌+◌}
 use Rattle.mk_exact.specs.History.{revision}
-use Rattle.mk_market.proofs.Retold.{resolved_again, resolved_otherwise}
+use Rattle.mk_told.proofs.Retold.{resolved_again, resolved_otherwise}
 use Rattle.mk_verify.proofs.plain.tells_resolution.Goals as goal
 
 pub returns-then-eq : goal.returns-then-eq

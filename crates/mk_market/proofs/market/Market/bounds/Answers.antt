@@ -5,15 +5,18 @@ use Rattle.mk_file.specs.MarketOf.{market_of}
 use Rattle.mk_command.specs.declared.command.Command.TheVariants.{Bounds as BoundsCommand}
 use Rattle.mk_quote.specs.Questions.{spread_in}
 use Rattle.mk_record.specs.declared.last_quote.LastQuote.TheVariants.{Bounds}
-use Rattle.mk_market.specs.declared.possible.Stopped.TheVariants.{Decided}
-use Rattle.mk_market.specs.inner.Stopped.{IsRefusedFor}
-use Rattle.mk_market.proofs.Apart.{each_owns, apart_quoted}
+use Rattle.mk_asking.specs.declared.possible.Stopped.TheVariants.{Decided}
+use Rattle.mk_asking.specs.Stopped.{IsRefusedFor}
+use Rattle.mk_asking.proofs.Apart.{apart_quoted}
+use Rattle.mk_market.proofs.Apart.{each_owns}
 use Rattle.mk_market.proofs.Growing.{is_open}
-use Rattle.mk_market.proofs.Lent.{in_range}
-use Rattle.mk_market.proofs.Quotes.{quote_was_set, kept_quoted}
+use Rattle.mk_asking.proofs.Lent.{in_range}
+use Rattle.mk_asking.proofs.Quotes.{quote_was_set}
+use Rattle.mk_market.proofs.Quotes.{kept_quoted}
 use Rattle.mk_market.proofs.Refiled.{refiled}
 use Rattle.mk_market.proofs.Replies.{answered_refused, by_record}
-use Rattle.mk_market.proofs.Spreads.{question_for, kept_quote, bounds_answered}
+use Rattle.mk_asking.proofs.SpreadQuotes.{kept_quote}
+use Rattle.mk_market.proofs.Spreads.{question_for, bounds_answered}
 use Rattle.mk_market.proofs.StoppedSpreads.{kept_beside, can_refuse, bounds_known, decided_answered, bounds_unrefused}
 use Rattle.mk_market.proofs.market.Market.bounds.Goals as goal
 

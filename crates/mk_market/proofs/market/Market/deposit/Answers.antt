@@ -2,8 +2,9 @@ use Rattle.std.proofs.Common.{refl, ◌∙◌}
 use Rattle.mk_command.specs.declared.command.Command.TheVariants.{Deposit}
 use Rattle.mk_file.specs.MarketOf.{market_of}
 use Rattle.mk_exact.specs.History.{Deposit as Deposits}
-use Rattle.mk_market.proofs.Apart.{each_owns, each_owns_then, others_left, apart_lent}
-use Rattle.mk_market.proofs.Lent.{names_stay}
+use Rattle.mk_asking.proofs.Apart.{apart_lent}
+use Rattle.mk_market.proofs.Apart.{each_owns, each_owns_then, others_left}
+use Rattle.mk_asking.proofs.Lent.{names_stay}
 use Rattle.mk_market.proofs.Replies.{answered_refused}
 use Rattle.mk_market.proofs.Deposits.{can_deposit, points_fit, deposit_kept, deposit_allowed}
 use Rattle.mk_market.proofs.Deposits.{deposit_next, deposit_paid}

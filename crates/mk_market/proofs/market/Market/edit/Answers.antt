@@ -8,17 +8,19 @@ use Rattle.mk_command.specs.declared.command.Command.TheVariants.{Edit}
 use Rattle.mk_reply.specs.declared.reply.Reply.TheVariants.{Traded}
 use Rattle.mk_rules.proofs.Traded.{ratio_fits}
 use Rattle.mk_record.specs.declared.last_quote.LastQuote.TheVariants.{Limits}
-use Rattle.mk_market.specs.inner.Quoting.{CanBeMade}
-use Rattle.mk_market.proofs.Apart.{each_owns, apart_then, apart_quoted}
+use Rattle.mk_asking.specs.Quoting.{CanBeMade}
+use Rattle.mk_asking.proofs.Apart.{apart_then, apart_quoted}
+use Rattle.mk_market.proofs.Apart.{each_owns}
 use Rattle.mk_market.proofs.Replies.{by_record, unsettled}
 use Rattle.mk_market.proofs.Stopping.{edit_known, edit_unrefused, edit_stopped}
 use Rattle.mk_file.specs.MarketOf.{market_of}
 use Rattle.mk_beliefs.specs.Meanings.{weights_of}
 use Rattle.mk_market.proofs.Edited.{left_by_quote, last_is, edit_refused_answered, kept_quote, beyond_answered, hit_units, miss_units, trade_has_units, trade_fits, trade_next, trade_answered}
 use Rattle.mk_market.proofs.Growing.{is_open}
-use Rattle.mk_market.proofs.Lent.{in_range}
-use Rattle.mk_market.proofs.Quotes.{quote_was_set, kept_quoted, kept_unquoted}
-use Rattle.mk_market.proofs.Traded.{home_of_ratio}
+use Rattle.mk_asking.proofs.Lent.{in_range}
+use Rattle.mk_asking.proofs.Quotes.{quote_was_set}
+use Rattle.mk_market.proofs.Quotes.{kept_quoted, kept_unquoted}
+use Rattle.mk_asking.proofs.Traded.{home_of_ratio}
 use Rattle.mk_market.proofs.Trades.{can_be_made, trade_kept}
 use Rattle.mk_market.proofs.market.Market.edit.Goals as goal
 

@@ -2,15 +2,17 @@ use Rattle.std.proofs.Common.{◌∙◌}
 use Rattle.mk_command.specs.declared.command.Command.TheVariants.{Limits as Ask}
 use Rattle.mk_exact.specs.History.{users}
 use Rattle.mk_record.specs.declared.last_quote.LastQuote.TheVariants.{Limits}
-use Rattle.mk_market.proofs.Apart.{each_owns, apart_quoted}
+use Rattle.mk_asking.proofs.Apart.{apart_quoted}
+use Rattle.mk_market.proofs.Apart.{each_owns}
 use Rattle.mk_market.proofs.Replies.{answered_refused, by_record}
 use Rattle.mk_market.proofs.Stopping.{limits_known, limits_unrefused, limits_stopped}
 use Rattle.mk_market.proofs.Growing.{is_open}
 use Rattle.mk_file.specs.MarketOf.{market_of}
 use Rattle.mk_beliefs.specs.Meanings.{weights_of}
 use Rattle.mk_market.proofs.Edited.{left_by_quote, kept_quote, limits_answered}
-use Rattle.mk_market.proofs.Lent.{in_range}
-use Rattle.mk_market.proofs.Quotes.{quote_was_set, kept_quoted, kept_unquoted}
+use Rattle.mk_asking.proofs.Lent.{in_range}
+use Rattle.mk_asking.proofs.Quotes.{quote_was_set}
+use Rattle.mk_market.proofs.Quotes.{kept_quoted, kept_unquoted}
 use Rattle.mk_market.proofs.market.Market.limits.Goals as goal
 
 pub returns-in_err-request : goal.returns-in_err-request

@@ -8,12 +8,13 @@ use Rattle.mk_rules.specs.Refusals.{refusals_by_record, impossible_together}
 use Rattle.mk_rules.proofs.Unrefused.{none_applies}
 use Rattle.mk_rules.proofs.Spreads.{spread_parts}
 use Rattle.mk_market.specs.inner.Keeping.{standing_of}
-use Rattle.mk_market.specs.inner.Stopped.{IsConditionBy}
-use Rattle.mk_market.proofs.Apart.{each_owns, others_left, apart_lent, apart_then}
+use Rattle.mk_asking.specs.Stopped.{IsConditionBy}
+use Rattle.mk_asking.proofs.Apart.{apart_lent, apart_then}
+use Rattle.mk_market.proofs.Apart.{each_owns, others_left}
 use Rattle.mk_market.proofs.EveryValue.{can_refuse_told, known_of, same_standing}
 use Rattle.mk_market.proofs.EveryValue.{position_allowed, position_stopped, position_kept}
 use Rattle.mk_market.proofs.Growing.{is_open}
-use Rattle.mk_market.proofs.Lent.{in_range, names_stay}
+use Rattle.mk_asking.proofs.Lent.{in_range, names_stay}
 use Rattle.mk_market.proofs.Quotes.{kept_unquoted, answered_learnt}
 use Rattle.mk_market.proofs.Refiled.{refiled}
 use Rattle.mk_market.proofs.Replies.{answered_refused, by_record, none_appended}

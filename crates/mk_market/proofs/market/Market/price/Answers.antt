@@ -8,7 +8,8 @@ use Rattle.mk_market.proofs.Apart.{each_owns}
 use Rattle.mk_market.proofs.Growing.{is_open}
 use Rattle.mk_market.proofs.Replies.{answered_refused, by_record}
 use Rattle.mk_market.proofs.Answers.{price_allowed, price_next}
-use Rattle.mk_market.proofs.Stopping.{price_known, can_refuse_condition, impossible_by, price_stopped}
+use Rattle.mk_asking.proofs.Stopping.{can_refuse_condition, impossible_by}
+use Rattle.mk_market.proofs.Stopping.{price_known, price_stopped}
 use Rattle.mk_market.proofs.market.Market.price.Goals as goal
 
 pub returns-in_err-asked : goal.returns-in_err-asked

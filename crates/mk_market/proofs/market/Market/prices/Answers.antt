@@ -8,7 +8,7 @@ use Rattle.mk_rules.specs.Refusals.{refusals_by_record, impossible_together}
 use Rattle.mk_rules.proofs.Unrefused.{none_applies}
 use Rattle.mk_rules.proofs.Spreads.{spread_parts}
 use Rattle.mk_market.specs.inner.Keeping.{standing_of}
-use Rattle.mk_market.specs.inner.Stopped.{IsConditionBy}
+use Rattle.mk_asking.specs.Stopped.{IsConditionBy}
 use Rattle.mk_market.proofs.Apart.{each_owns}
 use Rattle.mk_market.proofs.EveryValue.{can_refuse_told, known_of, prices_allowed, prices_stopped}
 use Rattle.mk_market.proofs.Growing.{is_open}

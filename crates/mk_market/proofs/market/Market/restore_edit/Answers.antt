@@ -9,10 +9,10 @@ use Rattle.mk_command.specs.declared.command.Command.TheVariants.{Edit}
 use Rattle.mk_reply.specs.Replies.{IsReply}
 use Rattle.mk_rules.proofs.Traded.{ratio_fits}
 use Rattle.mk_market.specs.inner.Keeping.{standing_of}
-use Rattle.mk_market.specs.inner.Quoting.{CanBeMade}
+use Rattle.mk_asking.specs.Quoting.{CanBeMade}
 use Rattle.mk_market.proofs.Replies.{nothing_added}
 use Rattle.mk_market.proofs.TakenBack.{left_by_reply, left_by_refusal, tried_unfit}
-use Rattle.mk_market.proofs.Traded.{home_of_ratio}
+use Rattle.mk_asking.proofs.Traded.{home_of_ratio}
 use Rattle.mk_market.proofs.Trades.{can_be_made, trade_kept}
 use Rattle.mk_market.proofs.TradesBack.{edit_fits, edit_unsettled, edit_units, edit_paid, edit_next}
 use Rattle.mk_market.proofs.market.Market.restore_edit.Goals as goal

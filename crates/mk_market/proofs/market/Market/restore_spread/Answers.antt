@@ -8,7 +8,7 @@ use Rattle.mk_exact.specs.History.{Trade}
 use Rattle.mk_spread.specs.Spreads.{spread_ratio}
 use Rattle.mk_quote.specs.Questions.{spread_in}
 use Rattle.mk_command.specs.declared.command.Command.TheVariants.{Spread}
-use Rattle.mk_market.specs.inner.Quoting.{CanBeMade}
+use Rattle.mk_asking.specs.Quoting.{CanBeMade}
 use Rattle.mk_market.proofs.Trades.{can_be_made, trade_kept}
 use Rattle.mk_market.proofs.TradesBack.{spread_fits, spread_ratio_fits, spread_unsettled}
 use Rattle.mk_market.proofs.TradesBack.{spread_units, spread_next}

@@ -12,16 +12,18 @@ use Rattle.mk_command.specs.declared.command.Command.TheVariants.{Spread}
 use Rattle.mk_quote.specs.Questions.{spread_in}
 use Rattle.mk_reply.specs.declared.reply.Reply.TheVariants.{Spreaded}
 use Rattle.mk_record.specs.Members.{quotes_of}
-use Rattle.mk_market.specs.inner.Quoting.{IsTaken, IsTurnedDown, CanBeMade}
-use Rattle.mk_market.specs.inner.Stopped.{IsRefusedFor}
-use Rattle.mk_market.proofs.Apart.{each_owns, apart_then}
+use Rattle.mk_asking.specs.Quoting.{IsTaken, IsTurnedDown, CanBeMade}
+use Rattle.mk_asking.specs.Stopped.{IsRefusedFor}
+use Rattle.mk_asking.proofs.Apart.{apart_then}
+use Rattle.mk_market.proofs.Apart.{each_owns}
 use Rattle.mk_market.proofs.Growing.{is_open}
 use Rattle.mk_market.proofs.Refiled.{refiled}
 use Rattle.mk_market.proofs.Replies.{by_record, unsettled}
 use Rattle.mk_market.proofs.Spreads.{spread_refused_answered, question_for, of_values, ratio_is}
 use Rattle.mk_market.proofs.Spreads.{spread_has_units, spread_trade_fits, spread_trade_next}
 use Rattle.mk_market.proofs.Spreads.{spread_trade_answered}
-use Rattle.mk_market.proofs.StoppedSpreads.{can_refuse, spread_known, one_share_each, spread_unrefused, turned_may_stop, stopped_answered, stopped_kept}
+use Rattle.mk_asking.proofs.StoppedSpreads.{turned_may_stop}
+use Rattle.mk_market.proofs.StoppedSpreads.{can_refuse, spread_known, one_share_each, spread_unrefused, stopped_answered, stopped_kept}
 use Rattle.mk_market.proofs.Trades.{in_use, can_be_made, trade_kept}
 use Rattle.mk_market.proofs.market.Market.spread.Goals as goal
 

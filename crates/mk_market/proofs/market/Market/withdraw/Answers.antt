@@ -4,8 +4,9 @@ use Rattle.mk_command.specs.declared.command.Command.TheVariants.{Withdraw}
 use Rattle.mk_reply.specs.declared.refusal.Refusal.TheVariants.{Short}
 use Rattle.mk_reply.specs.declared.reply.Reply.TheVariants.{Refused, Withdrawn}
 use Rattle.mk_file.specs.MarketOf.{market_of}
-use Rattle.mk_market.proofs.Apart.{each_owns, each_owns_then, others_left, apart_lent, apart_then}
-use Rattle.mk_market.proofs.Lent.{in_range, names_stay}
+use Rattle.mk_asking.proofs.Apart.{apart_lent, apart_then}
+use Rattle.mk_market.proofs.Apart.{each_owns, each_owns_then, others_left}
+use Rattle.mk_asking.proofs.Lent.{in_range, names_stay}
 use Rattle.mk_market.proofs.Quotes.{kept_unquoted, answered_learnt}
 use Rattle.mk_market.proofs.Replies.{answered_refused}
 use Rattle.mk_market.proofs.Worsts.{can_find, worst_kept}

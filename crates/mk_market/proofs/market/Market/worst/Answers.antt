@@ -3,8 +3,9 @@ use Rattle.mk_exact.specs.History.{users}
 use Rattle.mk_command.specs.declared.command.Command.TheVariants.{Worst}
 use Rattle.mk_reply.specs.declared.reply.Reply.TheVariants.{Worst as Worsted}
 use Rattle.mk_file.specs.MarketOf.{market_of}
-use Rattle.mk_market.proofs.Apart.{each_owns, others_left, apart_lent, apart_then}
-use Rattle.mk_market.proofs.Lent.{in_range, names_stay}
+use Rattle.mk_asking.proofs.Apart.{apart_lent, apart_then}
+use Rattle.mk_market.proofs.Apart.{each_owns, others_left}
+use Rattle.mk_asking.proofs.Lent.{in_range, names_stay}
 use Rattle.mk_market.proofs.Quotes.{kept_unquoted, answered_learnt}
 use Rattle.mk_market.proofs.Replies.{answered_refused}
 use Rattle.mk_market.proofs.Worsts.{can_find, worst_allowed, worst_next, worst_kept}

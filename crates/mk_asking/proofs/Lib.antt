@@ -1,0 +1,13 @@
+pub mod Lent
+pub mod Owned
+pub mod Apart
+pub mod Learnt
+pub mod Quotes
+pub mod Together
+pub mod Stopping
+pub mod Resolvable
+pub mod SpreadQuotes
+pub mod Judging
+pub mod TogetherSpreads
+pub mod StoppedSpreads
+pub mod Traded

@@ -1,6 +1,0 @@
-use Rattle.std.proofs.Common.{take, All}
-use Rattle.mk_net.specs.Name.{IsName}
-use Rattle.mk_market.proofs.wording.read_names.Given as goal
-
-abbrev pub invariant-loop-name : goal.invariant-loop-name
-invariant-loop-name l = All IsName (take l.name-index l.names)
