@@ -5,7 +5,7 @@ ghost use Rattle.std.specs.Prelude.{◌≡◌, ℕ, ◌<◌, [], ◌∷◌, leng
 ghost use Rattle.mk_net.specs.Sets.{is_member};
 ghost use Rattle.mk_tree.specs.Given.{clique_at, holds_event};
 ghost use Rattle.mk_tree.specs.Checked.{IsTreeOf};
-ghost use Rattle.mk_propagate.specs.Shapes.{IsClique};
+ghost use Rattle.mk_plan.specs.Shapes.{IsClique};
 
 use mk_file::{MarketFile, read_market};
 use mk_net::{Event, Network, Pair, VarSet};
