@@ -6,6 +6,3 @@
 mod chances;
 #[cfg(test)]
 mod peaks;
-
-/// Nothing: this program is its tests.
-fn main() {}

@@ -5,6 +5,3 @@
 
 #[cfg(test)]
 mod crashes;
-
-/// Nothing: this program is its tests.
-fn main() {}

@@ -12,6 +12,3 @@ mod parts;
 mod runs;
 #[cfg(test)]
 mod tallies;
-
-/// Nothing: this program is its tests.
-fn main() {}

@@ -4,6 +4,3 @@
 
 #[cfg(test)]
 mod audits;
-
-/// Nothing: this program is its tests.
-fn main() {}
