@@ -8,7 +8,7 @@ use Rattle.std.proofs.lemmas.Option.{slice_get-map, get_or_from_slice_get}
 use Rattle.std.proofs.Math.Seq.{map-set_same}
 use Rattle.mk_net.specs.Network.{Variable}
 use Rattle.mk_exact.specs.History.{Entry}
-use Rattle.mk_exact.specs.History.{users, deposited, withdrawn, bits_in, bits_out}
+use Rattle.mk_exact.specs.History.{deposited, withdrawn, bits_in, bits_out}
 use Rattle.mk_exact.proofs.After.{deposited_more, withdrawn_more}
 use Rattle.mk_tree.specs.Given.{GivenTree}
 use Rattle.mk_engine.specs.Meaning.{Meaning}

@@ -25,8 +25,7 @@ use Rattle.mk_asking.specs.declared.possible.Stopped.{Stopped}
 use Rattle.mk_asking.specs.declared.possible.Stopped.TheVariants as stopped
 use Rattle.mk_asking.specs.Quoting.{IsSpreadQuoteOf, IsTurnedDown}
 use Rattle.mk_asking.specs.Stopped.{IsSpreadDecidedBy, IsRefusedFor, MayStop}
-use Rattle.mk_asking.proofs.SpreadQuotes.{two_left}
-use Rattle.mk_asking.proofs.SpreadQuotes.{no_side_is}
+use Rattle.mk_asking.proofs.SpreadQuotes.{two_left, no_side_is}
 use Rattle.mk_asking.proofs.TogetherSpreads.{together_left, sure_is, not_sure, impossible_by, missing_by, inside_is_placed}
 
 -- ---- the first refusal by what can come

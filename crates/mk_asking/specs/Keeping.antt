@@ -5,7 +5,7 @@ use Rattle.mk_exact.specs.Limits.{Side}
 use Rattle.mk_exact.specs.Sides.{AreSides}
 use Rattle.mk_spread.specs.Markets.{AreValueSides, values_left}
 use Rattle.mk_exact.specs.Weight.{IsSmall}
-use Rattle.mk_exact.specs.History.{Entry, users, revision}
+use Rattle.mk_exact.specs.History.{Entry, revision}
 use Rattle.mk_tree.specs.Given.{GivenTree}
 use Rattle.mk_engine.specs.Meaning.{Meaning}
 use Rattle.mk_assets.specs.declared.assets.Assets.{Assets}

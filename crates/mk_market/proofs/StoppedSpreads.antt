@@ -47,8 +47,7 @@ use Rattle.mk_market.proofs.Replies.{refused_answered, stopped_by_states, unrefu
 use Rattle.mk_asking.proofs.SpreadQuotes.{kept_quote}
 use Rattle.mk_asking.proofs.StoppedSpreads.{decided_first, undecided, impossible_first}
 use Rattle.mk_asking.proofs.StoppedSpreads.{missing_first, none_first, inside_first}
-use Rattle.mk_market.proofs.Spreads.{refused_answered as spread_refused}
-use Rattle.mk_market.proofs.Spreads.{outside_answered}
+use Rattle.mk_market.proofs.Spreads.{refused_answered as spread_refused, outside_answered}
 use Rattle.mk_replay.specs.Tills.{TillOf}
 
 module _ {P A Plan : Type 0} (weights_stand : P → Meaning → Type 0) (gains_stand : A → Meaning → Type 0) (plan_for : Plan → List Variable → GivenTree → Type 0)
