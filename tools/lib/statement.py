@@ -49,7 +49,7 @@ SECTIONS = [
     ("The market file and its tree", [
         "mk_file/src/fault.rt", "mk_file/specs/File.antt", "mk_file/specs/Walk.antt", "mk_net/specs/Drafts.antt", "mk_file/specs/Counts.antt",
         "mk_net/src/fault.rt", "mk_net/specs/Checked.antt", "mk_file/specs/Cliques.antt", "mk_tree/src/fault.rt", "mk_tree/specs/Given.antt",
-        "mk_tree/specs/Tests.antt", "mk_net/specs/Sets.antt"]),
+        "mk_tree/specs/Tests.antt", "mk_sets/specs/Sets.antt"]),
     ("The sample", [
         "daggre/specs/Sampled.antt", "mk_tally/src/counts.rt", "mk_tally/specs/Tally.antt", "mk_make/specs/Sample.antt", "mk_make/specs/Lines.antt"]),
     ("The outside", [

@@ -20,9 +20,10 @@ use crate::adding::shared;
 use crate::refusing_rows::has_rows;
 use mk_addition::AddText;
 use mk_file::MarketFile;
-use mk_net::{Name, Network, VarSet};
+use mk_net::{Name, Network};
 use mk_record::{Journal, not_settled, refuse_if};
 use mk_reply::Refusal;
+use mk_sets::VarSet;
 use mk_tree::clique_cells;
 
 /// The most variables of a market.

@@ -10,7 +10,7 @@ use Rattle.mk_net.specs.Events.{pairs_asked}
 use Rattle.mk_net.specs.Bounds.{max_values, max_market_trades}
 use Rattle.mk_net.specs.Network.{Variable, IsNetwork, sizes}
 use Rattle.mk_net.specs.Named.{nobody}
-use Rattle.mk_net.specs.Sets.{VarSet, is_member}
+use Rattle.mk_sets.specs.Sets.{VarSet, is_member}
 use Rattle.mk_exact.specs.History.{Entry, UserTrade, Trade, trades, deposited, withdrawn}
 use Rattle.mk_states.specs.OfNetwork.{IsQuestionOf, IsRatioOf}
 use Rattle.mk_exact.specs.Sides.{ratio_in}

@@ -2,14 +2,15 @@
 //! values have to be.
 
 ghost use Rattle.std.specs.Prelude.{◌≡◌, ℕ, ◌<◌, [], ◌∷◌, length, true, IfOk};
-ghost use Rattle.mk_net.specs.Sets.{is_member};
+ghost use Rattle.mk_sets.specs.Sets.{is_member};
 ghost use Rattle.mk_tree.specs.Given.{clique_at, holds_event};
 ghost use Rattle.mk_tree.specs.Checked.{IsTreeOf};
 ghost use Rattle.mk_plan.specs.Shapes.{IsClique};
 
 use mk_file::{MarketFile, read_market};
-use mk_net::{Event, Network, Pair, VarSet};
+use mk_net::{Event, Network, Pair};
 use mk_semiring::Held;
+use mk_sets::VarSet;
 use mk_tree::Tree;
 use std::alloc::Global;
 use std::process::Abort;

@@ -11,7 +11,7 @@ use Rattle.std.proofs.lemmas.List.FromFn.{length-map-range_with_len, length-rang
 use Rattle.mk_net.specs.Bounds.{max_values}
 use Rattle.mk_net.specs.Named.{variable_at}
 use Rattle.mk_net.specs.Network.{Variable, IsNetwork, sizes, choices}
-use Rattle.mk_net.specs.Sets.{VarSet, is_member}
+use Rattle.mk_sets.specs.Sets.{VarSet, is_member}
 use Rattle.mk_net.specs.Zeros.{has_zero, with_zeros}
 use Rattle.mk_net.proofs.Networks.{two_values}
 use Rattle.mk_exact.specs.History.{Entry, UserTrade, trades, trades_of}

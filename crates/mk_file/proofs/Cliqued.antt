@@ -9,7 +9,7 @@ use Rattle.std.proofs.lemmas.List.Folds.{list_all-append}
 use Rattle.mk_net.specs.Name.{IsName}
 use Rattle.mk_net.specs.Named.{nobody}
 use Rattle.mk_net.specs.Network.{Variable}
-use Rattle.mk_net.specs.Sets.{VarSet, is_member, no_variables, with_member, set_of}
+use Rattle.mk_sets.specs.Sets.{VarSet, is_member, no_variables, with_member, set_of}
 use Rattle.mk_net.specs.Texts.{same_text}
 use Rattle.mk_net.specs.Checked.{has_double}
 use Rattle.mk_net.proofs.Members.{set_of_none, set_of_more}

@@ -9,7 +9,7 @@ use Rattle.mk_net.specs.Name.{IsName}
 use Rattle.mk_net.specs.Texts.{same_text}
 use Rattle.mk_net.specs.Network.{Variable}
 use Rattle.mk_net.specs.Drafts.{DraftOfVariable}
-use Rattle.mk_net.specs.Sets.{VarSet, set_of}
+use Rattle.mk_sets.specs.Sets.{VarSet, set_of}
 use Rattle.mk_net.specs.Firsts.{fault_if, or_else, first_in}
 use Rattle.mk_net.specs.Checked.{is_within, number_of, has_double, checked_variable, checked_network, count_at, count_fault, later_fault as draft_later, first_fault}
 use Rattle.mk_net.specs.declared.key.Key.{Key}

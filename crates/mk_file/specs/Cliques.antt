@@ -3,7 +3,7 @@ use Rattle.std.specs.Prelude.{ℕ, ◌-◌, ℤ, nat_abs, List, length, map, Boo
 use Rattle.std.specs.List.{list_all}
 use Rattle.mk_net.specs.Drafts.{DraftOfVariable}
 use Rattle.mk_net.specs.Firsts.{fault_if}
-use Rattle.mk_net.specs.Sets.{set_of}
+use Rattle.mk_sets.specs.Sets.{set_of}
 use Rattle.mk_net.specs.Checked.{number_of, has_double}
 use Rattle.mk_tree.specs.Given.{GivenTree}
 use Rattle.mk_tree.specs.declared.fault.TreeFault.{TreeFault}

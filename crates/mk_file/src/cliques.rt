@@ -10,7 +10,8 @@ ghost use Rattle.mk_file.specs.Cliques.{link_at};
 ghost use Rattle.mk_file.specs.inner.Known.{is_bad_clique, clique_in, set_in, IsSetOf};
 
 use crate::fault::FileFault;
-use mk_net::{Name, Network, VarSet};
+use mk_net::{Name, Network};
+use mk_sets::VarSet;
 use std::alloc::Global;
 
 /// The number of the variable of a name. None exactly where it is unknown.

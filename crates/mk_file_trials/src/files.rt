@@ -2,7 +2,8 @@
 
 use arrayvec::ArrayString;
 use mk_file::{FileFault, MarketFile, print_fault, read_market};
-use mk_net::{Network, VarSet};
+use mk_net::Network;
+use mk_sets::VarSet;
 use mk_tree::Tree;
 use std::alloc::Global;
 use std::process::Abort;

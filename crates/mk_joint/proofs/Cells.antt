@@ -5,7 +5,7 @@ use Rattle.std.specs.List.{range_with_len, position_or_len}
 use Rattle.std.proofs.lemmas.Bool.{cases_eq, or_left, or_right, or_cases, eqb-true}
 use Rattle.std.proofs.lemmas.List.{length-map, ext_get_or}
 use Rattle.std.proofs.lemmas.List.FromFn.{get_or-map-range_with_len, length-map-range_with_len}
-use Rattle.mk_net.specs.Sets.{VarSet, is_member}
+use Rattle.mk_sets.specs.Sets.{VarSet, is_member}
 use Rattle.mk_net.specs.Network.{Variable, sizes}
 use Rattle.mk_states.specs.States.{states, plus_over}
 use Rattle.mk_states.specs.InitialWeight.{value_at}

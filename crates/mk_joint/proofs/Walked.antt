@@ -3,7 +3,7 @@ use Rattle.std.proofs.Common.{◌≡◌, ℕ, suc, zero, ◌+◌, ◌*◌, ◌<�
 use Rattle.std.specs.List.{range_with_len}
 use Rattle.std.proofs.lemmas.Bool.{cond-true}
 use Rattle.std.proofs.lemmas.List.{length-map}
-use Rattle.mk_net.specs.Sets.{VarSet, is_member}
+use Rattle.mk_sets.specs.Sets.{VarSet, is_member}
 use Rattle.mk_net.specs.Network.{Variable, sizes, choices}
 use Rattle.mk_states.specs.States.{numbers_below}
 use Rattle.mk_sums.specs.Cells.{cells}

@@ -2,7 +2,7 @@
 
 ghost use Rattle.std.specs.Prelude.{◌≡◌, ℕ, ◌+◌, ◌<◌, ◌≤◌, length, true, IfOk, ⊤};
 ghost use Rattle.mk_net.specs.Bounds.{max_clique_cells, number_limit};
-ghost use Rattle.mk_net.specs.Sets.{is_member};
+ghost use Rattle.mk_sets.specs.Sets.{is_member};
 ghost use Rattle.mk_net.specs.Network.{IsNetwork};
 ghost use Rattle.mk_engine.specs.Meaning.{Meaning, whole_sum};
 ghost use Rattle.mk_engine.specs.Apart.{IsApart, without_ratios};
@@ -10,9 +10,10 @@ ghost use Rattle.mk_engine.specs.Beliefs.{CanBelieve, IsBelief};
 ghost use Rattle.mk_joint.specs.inner.Joints.{HasJoint, IsPlanFor, joint_states};
 
 use mk_engine::Engine;
-use mk_net::{Event, Network, NoMemory, Pair, Ratio, VarSet};
+use mk_net::{Event, Network, NoMemory, Pair, Ratio};
 use mk_scope::{CellList, Scope};
 use mk_semiring::Semiring;
+use mk_sets::VarSet;
 use mk_table::{Scopes, Tables};
 use mk_tree::Tree;
 use std::alloc::Global;

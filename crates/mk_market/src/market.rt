@@ -48,7 +48,8 @@ impl<P: Engine<SumProd>, A: Engine<MinProd>> Model for Market<P, A> {
 
 impl<P: Engine<SumProd>, A: Engine<MinProd>> Market<P, A> {
     ghost use Rattle.std.specs.Prelude.{◌≡◌, ◌≤◌, length};
-    ghost use Rattle.mk_net.specs.Bounds.{max_variables, max_points_per_bit};
+    ghost use Rattle.mk_net.specs.Bounds.{max_points_per_bit};
+    ghost use Rattle.mk_sets.specs.Sets.{max_variables};
     ghost use Rattle.mk_exact.specs.History.{additions};
     ghost use Rattle.mk_file.specs.MarketOf.{market_of};
     ghost use Rattle.mk_restore.specs.Laws.{IsSafe};

@@ -3,12 +3,10 @@ pub mod Networks
 pub mod StoredReads
 pub mod SameText
 pub mod Named
-pub mod Bits
 pub mod Blanks
 pub mod Events
 pub mod KeptRows
 pub mod Mapped
-pub mod Members
 pub mod Numbers
 pub mod Choices
 pub mod Firsts

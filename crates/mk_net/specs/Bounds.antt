@@ -1,10 +1,7 @@
--- How much there may be of each thing in a market: each limit has its name here.
+-- How much there may be of each thing in a market: each limit has its name here, and that of variables in `mk_sets`.
 use Rattle.std.specs.Prelude.{ℕ, ◌+◌, ◌-◌, ◌^◌, nat_le, if◌then◌else◌}
 
--- variables of a network, values of a variable, and parents of one
-abbrev pub max_variables : ℕ
-max_variables = 256
-
+-- values of a variable, and parents of one
 abbrev pub max_values : ℕ
 max_values = 16
 

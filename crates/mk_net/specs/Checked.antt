@@ -6,7 +6,8 @@ use Rattle.mk_net.specs.declared.key.Key.TheVariants.{Variable as VariableKey, V
 use Rattle.mk_net.specs.declared.fault.NetFault.{NetFault}
 use Rattle.mk_net.specs.declared.fault.NetFault.TheVariants.{Count, BadName, Repeat, Parent, Rows, Width, Entry, Sum}
 use Rattle.mk_net.specs.Name.{is_name}
-use Rattle.mk_net.specs.Bounds.{max_variables, max_values, max_parents, million}
+use Rattle.mk_net.specs.Bounds.{max_values, max_parents, million}
+use Rattle.mk_sets.specs.Sets.{max_variables}
 use Rattle.mk_net.specs.Texts.{same_text}
 use Rattle.mk_net.specs.Network.{Variable, choices}
 use Rattle.mk_net.specs.Drafts.{DraftOfVariable}

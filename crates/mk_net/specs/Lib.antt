@@ -12,6 +12,5 @@ pub mod Drafts
 pub mod Firsts
 pub mod Checked
 pub mod Events
-pub mod Sets
 pub mod Trades
 pub mod inner

@@ -3,7 +3,6 @@ pub mod Counted
 pub mod KeptEvents
 pub mod KeptQuestions
 pub mod KeptRows
-pub mod KeptSets
 pub mod Padded
 pub mod PaddedLaws
 pub mod TextLaws

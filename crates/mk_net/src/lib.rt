@@ -14,7 +14,6 @@ mod question;
 mod ratio;
 mod row;
 mod rows;
-mod sets;
 mod trade;
 mod words;
 
@@ -28,5 +27,4 @@ pub use network::Network;
 pub use question::Question;
 pub use ratio::Ratio;
 pub use row::Row;
-pub use sets::VarSet;
 pub use words::{NoMemory, Pair, PairText, QuestionText, Syntax};

@@ -5,7 +5,7 @@ use Rattle.std.specs.List.{range_with_len, list_any}
 use Rattle.std.proofs.lemmas.Bool.{cases_eq, both_ways, or_left, or_right, and_from, and_parts}
 use Rattle.std.proofs.lemmas.List.{take_more}
 use Rattle.mk_net.specs.Bounds.{max_clique_cells}
-use Rattle.mk_net.specs.Sets.{VarSet, is_member, no_variables}
+use Rattle.mk_sets.specs.Sets.{VarSet, is_member, no_variables}
 use Rattle.mk_net.specs.Network.{Variable, IsNetwork}
 use Rattle.mk_sums.specs.Trees.{linked, linked_to}
 use Rattle.mk_sums.proofs.Hops.{AreLinked, are_linked, linked_back, linked_from, ends}

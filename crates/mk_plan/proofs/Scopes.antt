@@ -6,7 +6,7 @@ use Rattle.std.proofs.lemmas.Bool.{cases_Bool, cases_eq, both_ways, or_left, or_
 use Rattle.std.proofs.lemmas.List.{length-map}
 use Rattle.std.specs.List.{range_with_len}
 use Rattle.mk_net.specs.Bounds.{max_clique_cells}
-use Rattle.mk_net.specs.Sets.{VarSet, is_member, no_variables}
+use Rattle.mk_sets.specs.Sets.{VarSet, is_member, no_variables}
 use Rattle.mk_net.specs.Network.{Variable, IsNetwork, sizes, choices}
 use Rattle.mk_net.specs.Named.{nobody}
 use Rattle.mk_states.specs.States.{numbers_below}

@@ -4,7 +4,7 @@ use Rattle.std.specs.List.{position_or_len, list_all}
 use Rattle.std.proofs.lemmas.Bool.{cond-true, cond-false, lt-ltb, le-ltb}
 use Rattle.std.proofs.lemmas.List.Sums.{position_or_len_is}
 use Rattle.mk_net.specs.declared.words.Pair.{Pair}
-use Rattle.mk_net.specs.Sets.{is_member, no_variables}
+use Rattle.mk_sets.specs.Sets.{is_member, no_variables}
 use Rattle.mk_tree.specs.Given.{GivenTree, clique_at, home, holds_event}
 use Rattle.mk_plan.specs.inner.Shaped.{StartsAt}
 

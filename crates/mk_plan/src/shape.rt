@@ -10,11 +10,12 @@ ghost use Rattle.mk_tree.specs.Checked.{IsTreeOf};
 ghost use Rattle.mk_scope.specs.Scopes.{LiesIn};
 ghost use Rattle.mk_plan.specs.Shapes.{IsShapeFor, IsClique, AreNextTo, clique_scope, core_scope, separator_scope, separator_between, are_linked, in_core, neighbours, next_on_way};
 ghost use Rattle.mk_plan.specs.Shapes.{all_scopes, scopes_of, HasEach};
-ghost use Rattle.mk_net.specs.Sets.{is_member};
+ghost use Rattle.mk_sets.specs.Sets.{is_member};
 ghost use Rattle.mk_plan.specs.inner.Shaped.{scopes_of_cliques, scopes_of_cores, scopes_of_separators, lists_of_neighbours, AreWays, AreStarts, StartsAt, CanPlaceSeparators, CanPlaceCores, whole_of, places_of, core_places_of, shape_of};
 
-use mk_net::{Event, Network, NoMemory, Pair, VarSet};
+use mk_net::{Event, Network, NoMemory, Pair};
 use mk_scope::{CellList, Places, Scope};
+use mk_sets::VarSet;
 use mk_table::Scopes;
 use mk_tree::Tree;
 use std::alloc::Global;

@@ -7,7 +7,7 @@ use Rattle.std.proofs.lemmas.Bool.{and_parts, both_ways, cases_Bool}
 use Rattle.std.proofs.lemmas.List.Elements.{All-weaker, All-contains, All-from_recursion, recursion_from_All}
 use Rattle.mk_net.specs.declared.words.Pair.{Pair}
 use Rattle.mk_net.specs.Bounds.{number_limit}
-use Rattle.mk_net.specs.Sets.{is_member, no_variables}
+use Rattle.mk_sets.specs.Sets.{is_member, no_variables}
 use Rattle.mk_states.specs.States.{plus_over}
 use Rattle.mk_states.specs.Lawful.{Lawful}
 use Rattle.mk_net.specs.Network.{sizes}

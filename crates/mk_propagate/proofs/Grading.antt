@@ -5,7 +5,7 @@ use Rattle.std.proofs.Math.Nat.{suc-mul, mul-le-mul}
 use Rattle.std.proofs.Math.Seq.{take-length}
 use Rattle.std.proofs.lemmas.List.Sums.{sum_by_more, sum_by-cons}
 use Rattle.mk_net.specs.Bounds.{max_cells}
-use Rattle.mk_net.specs.Sets.{no_variables}
+use Rattle.mk_sets.specs.Sets.{no_variables}
 use Rattle.mk_sums.specs.Trees.{sum_of, linked_to, linked}
 use Rattle.mk_sums.proofs.Grades.{grades_add, read_grades_add}
 use Rattle.mk_tree.specs.Given.{GivenTree, clique_at, link_of, max_tree_cliques}

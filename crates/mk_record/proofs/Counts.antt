@@ -5,7 +5,7 @@ use Rattle.std.proofs.lemmas.List.{length_push}
 use Rattle.std.specs.List.{count_by}
 use Rattle.mk_net.specs.declared.words.Pair.{Pair}
 use Rattle.mk_net.specs.Asked.{TradeRatio}
-use Rattle.mk_net.specs.Bounds.{max_variables}
+use Rattle.mk_sets.specs.Sets.{max_variables}
 use Rattle.mk_exact.specs.History.{Entry, Join, Deposit, Withdraw, Trade, Resolve, Settle, Add}
 use Rattle.mk_exact.specs.History.{join_in, trade_in, resolution_in, addition_in, Addition}
 use Rattle.mk_exact.specs.History.{is_settlement, is_transfer}

@@ -15,7 +15,7 @@ use Rattle.mk_net.specs.Events.{speaks_of, AreApart, IsQuestion, pairs_asked}
 use Rattle.mk_net.specs.Firsts.{fault_if, or_else, first_of}
 use Rattle.mk_net.specs.Network.{Variable}
 use Rattle.mk_net.specs.Named.{pair_named, variable_at}
-use Rattle.mk_net.specs.Sets.{VarSet, is_member}
+use Rattle.mk_sets.specs.Sets.{VarSet, is_member}
 use Rattle.mk_exact.specs.History.{Entry, is_settled}
 use Rattle.mk_states.specs.OfNetwork.{IsPairOf}
 use Rattle.mk_tree.specs.Given.{GivenTree, home, holds_event}

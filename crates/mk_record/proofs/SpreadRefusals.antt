@@ -14,7 +14,7 @@ use Rattle.mk_net.specs.Events.{speaks_of, AreApart, pairs_asked}
 use Rattle.mk_net.specs.Firsts.{fault_if, or_else, first_of}
 use Rattle.mk_net.specs.Network.{Variable, sizes}
 use Rattle.mk_net.specs.Named.{variable_named}
-use Rattle.mk_net.specs.Sets.{VarSet, is_member}
+use Rattle.mk_sets.specs.Sets.{VarSet, is_member}
 use Rattle.mk_net.proofs.Networks.{size_at}
 use Rattle.mk_exact.specs.History.{Entry, trades}
 use Rattle.mk_states.proofs.Sums.{each_weaker}

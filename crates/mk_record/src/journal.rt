@@ -3,7 +3,8 @@
 ghost use Rattle.std.specs.Prelude.{◌≡◌, ◌+◌, ◌<◌, ◌≤◌, [], ◌∷◌, ◌++◌, false, length, map, IfOk};
 ghost use Rattle.std.specs.Prelude.{take, get_or};
 ghost use Rattle.std.specs.List.{count_by};
-ghost use Rattle.mk_net.specs.Bounds.{max_users, max_variables, max_transfers, max_market_trades};
+ghost use Rattle.mk_net.specs.Bounds.{max_users, max_transfers, max_market_trades};
+ghost use Rattle.mk_sets.specs.Sets.{max_variables};
 ghost use Rattle.mk_net.specs.Trades.{trade_ratio};
 ghost use Rattle.mk_exact.specs.History.{Join, Deposit, Withdraw, Trade, Resolve, Settle, Add};
 ghost use Rattle.mk_exact.specs.History.{users, trades as trades_in, resolutions, additions};

@@ -1,8 +1,8 @@
 //! The scope of a table.
 
 ghost use Rattle.std.specs.Prelude.{◌≡◌, ℕ, ◌+◌, ◌<◌, ◌≤◌, ◌*◌, ◌/◌, ◌%◌, List, All, map, length, slice_index, true, false, IfOk};
-ghost use Rattle.mk_net.specs.Bounds.{max_clique_cells, max_values, max_variables};
-ghost use Rattle.mk_net.specs.Sets.{is_member};
+ghost use Rattle.mk_net.specs.Bounds.{max_clique_cells, max_values};
+ghost use Rattle.mk_sets.specs.Sets.{max_variables, is_member};
 ghost use Rattle.mk_net.specs.Network.{sizes, IsNetwork};
 ghost use Rattle.mk_sums.specs.Cells.{keep, cells};
 ghost use Rattle.mk_sums.specs.Joint.{variables};
@@ -15,7 +15,8 @@ ghost use Rattle.mk_scope.specs.Runs.{runs_of};
 
 use crate::strides::{CellList, begin, is_free, is_moved, take_moved, take_values};
 use crate::tail::{Tail, long_tail, no_tail};
-use mk_net::{Event, Network, NoMemory, VarSet};
+use mk_net::{Event, Network, NoMemory};
+use mk_sets::VarSet;
 use std::alloc::Global;
 use std::marker::Model;
 

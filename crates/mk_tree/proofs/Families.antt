@@ -5,7 +5,7 @@ use Rattle.std.proofs.Common.{refl, sym, ap, ◌∙◌, inl, inr}
 use Rattle.std.proofs.lemmas.Bool.{and_parts, and_from, or_cases, or_left, or_right, eqb-true, eq-eqb, cases_Bool, both_ways, false_from_ne_true}
 use Rattle.std.proofs.lemmas.List.{take_all}
 use Rattle.std.proofs.lemmas.List.Folds.{list_all_more}
-use Rattle.mk_net.specs.Sets.{VarSet, is_member, IsSubset}
+use Rattle.mk_sets.specs.Sets.{VarSet, is_member, IsSubset}
 
 -- a test that decides a fact is the test that decides it
 pub same_test : {P : Type 0} (a b : Bool) → ((a ≡ true) ↔ P) → (P ↔ (b ≡ true)) → a ≡ b

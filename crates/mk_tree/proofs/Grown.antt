@@ -9,7 +9,7 @@ use Rattle.std.proofs.lemmas.List.FromFn.{map-range_with_len_more}
 use Rattle.std.proofs.lemmas.List.Elements.{All-from_recursion, recursion_from_All, All-push}
 use Rattle.std.proofs.lemmas.List.Elements.{All-weaker, All-get_or, filter-append}
 use Rattle.std.proofs.lemmas.List.Sums.{sum_by_push}
-use Rattle.mk_net.specs.Sets.{VarSet, is_member, no_variables}
+use Rattle.mk_sets.specs.Sets.{VarSet, is_member, no_variables}
 use Rattle.mk_net.specs.Network.{Variable, sizes, choices}
 use Rattle.mk_states.specs.States.{numbers_below}
 use Rattle.mk_states.proofs.Sums.{each_number, each_weaker, sum_by_each}

@@ -10,7 +10,7 @@ use Rattle.std.proofs.Math.Bool.{and-true}
 use Rattle.std.proofs.lemmas.List.{take-append-drop}
 use Rattle.std.proofs.lemmas.List.Quantifiers.{position-Some}
 use Rattle.mk_net.specs.declared.words.Pair.{Pair}
-use Rattle.mk_net.specs.Sets.{VarSet, is_member, no_variables}
+use Rattle.mk_sets.specs.Sets.{VarSet, is_member, no_variables}
 use Rattle.mk_net.specs.Named.{variable_at}
 use Rattle.mk_net.specs.Network.{Variable}
 use Rattle.mk_states.proofs.Sums.{list_all-append}

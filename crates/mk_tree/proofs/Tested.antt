@@ -4,7 +4,7 @@ use Rattle.std.proofs.Common.{refl, sym, ap, subst, ◌∙◌, arith, inl, inr}
 use Rattle.std.proofs.lemmas.Bool.{ne_eqb, le-leb, lt-leb, not-true, not-false, not_from_true, not_from_false, cases_lt, both_ways}
 use Rattle.std.proofs.lemmas.List.{get_or_default}
 use Rattle.std.proofs.lemmas.List.Elements.{All-get_or}
-use Rattle.mk_net.specs.Sets.{VarSet, is_member, no_variables}
+use Rattle.mk_sets.specs.Sets.{VarSet, is_member, no_variables}
 use Rattle.mk_net.specs.Network.{Variable}
 use Rattle.mk_tree.specs.Given.{GivenTree, AreLinked, AreOfNetwork}
 use Rattle.mk_tree.specs.Tests.{are_connected, first_failing}

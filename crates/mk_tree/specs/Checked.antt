@@ -1,6 +1,6 @@
 -- What a checked tree keeps.
 use Rattle.std.specs.Prelude.{◌≡◌, ℕ, ◌<◌, ◌≤◌, List, length, All, true, sum_by}
-use Rattle.mk_net.specs.Sets.{VarSet}
+use Rattle.mk_sets.specs.Sets.{VarSet}
 use Rattle.mk_net.specs.Bounds.{max_clique_cells, max_cells}
 use Rattle.mk_net.specs.Network.{Variable}
 use Rattle.mk_sums.specs.Trees.{Running}

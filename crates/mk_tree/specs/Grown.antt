@@ -1,7 +1,7 @@
 -- The tree of a network with one variable more.
 use Rattle.std.specs.Prelude.{◌≡◌, ◌≢◌, ℕ, ◌+◌, ◌<◌, ◌≤◌, List, [], ◌∷◌, ◌++◌, length, true, All}
 use Rattle.std.specs.Prelude.{sum_by}
-use Rattle.mk_net.specs.Sets.{VarSet, is_member}
+use Rattle.mk_sets.specs.Sets.{VarSet, is_member}
 use Rattle.mk_net.specs.Bounds.{max_clique_cells, max_cells}
 use Rattle.mk_net.specs.Network.{Variable}
 use Rattle.mk_tree.specs.Given.{GivenTree, max_tree_cliques, holds}

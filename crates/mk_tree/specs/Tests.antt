@@ -2,7 +2,7 @@
 use Rattle.std.specs.Prelude.{ℕ, ◌+◌, ◌-◌, List, [], ◌∷◌, length, filter, Bool, ◌&&◌, ◌||◌, not, nat_lt, if◌then◌else◌, Option, Some, None, option_map, find}
 use Rattle.std.specs.List.{list_all, list_any, range_with_len}
 use Rattle.mk_net.specs.Bounds.{max_clique_cells, max_cells}
-use Rattle.mk_net.specs.Sets.{VarSet, is_member}
+use Rattle.mk_sets.specs.Sets.{VarSet, is_member}
 use Rattle.mk_net.specs.Network.{Variable, sizes, choices}
 use Rattle.mk_net.specs.Named.{variable_at}
 use Rattle.mk_net.specs.Firsts.{first_of}

@@ -11,7 +11,8 @@ ghost use Rattle.mk_net.specs.Bounds.{max_cells};
 use crate::check::{find_fault, total_cells};
 use crate::fault::TreeFault;
 use crate::starts::{find_starts, first_holder};
-use mk_net::{Event, Network, NoMemory, Pair, VarSet};
+use mk_net::{Event, Network, NoMemory, Pair};
+use mk_sets::VarSet;
 use std::alloc::Global;
 use std::marker::Model;
 

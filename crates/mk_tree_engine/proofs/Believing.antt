@@ -8,7 +8,7 @@ use Rattle.std.proofs.lemmas.List.{length-map}
 use Rattle.std.proofs.lemmas.List.Sums.{sum_by_more}
 use Rattle.std.proofs.Math.Seq.{take-length}
 use Rattle.mk_net.specs.declared.words.Pair.{Pair}
-use Rattle.mk_net.specs.Sets.{no_variables}
+use Rattle.mk_sets.specs.Sets.{no_variables}
 use Rattle.mk_net.specs.Bounds.{number_limit}
 use Rattle.mk_states.specs.States.{plus_over}
 use Rattle.mk_sums.specs.Trees.{sum_of, linked_to}

@@ -6,7 +6,7 @@ use Rattle.std.specs.List.{list_any}
 use Rattle.std.proofs.lemmas.Bool.{both_ways, or_from}
 use Rattle.mk_net.specs.declared.words.Pair.{Pair}
 use Rattle.mk_net.specs.Asked.{TradeRatio, ratio_pairs}
-use Rattle.mk_net.specs.Sets.{no_variables}
+use Rattle.mk_sets.specs.Sets.{no_variables}
 use Rattle.mk_net.specs.Network.{Variable}
 use Rattle.mk_tree.specs.Given.{GivenTree, clique_at, home}
 use Rattle.mk_tree.specs.Tests.{holds_family, is_covered}

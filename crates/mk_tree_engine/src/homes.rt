@@ -2,7 +2,7 @@
 
 ghost use Rattle.std.specs.Prelude.{◌≡◌, ℕ, ◌+◌, ◌<◌, ◌≤◌, ◌&&◌, length, true};
 ghost use Rattle.std.specs.List.{list_all};
-ghost use Rattle.mk_net.specs.Sets.{is_member};
+ghost use Rattle.mk_sets.specs.Sets.{is_member};
 ghost use Rattle.mk_net.specs.Network.{IsNetwork};
 ghost use Rattle.mk_tree.specs.Given.{clique_at};
 ghost use Rattle.mk_tree.specs.Tests.{holds_family};
@@ -11,7 +11,8 @@ ghost use Rattle.mk_engine.specs.Meaning.{RowsOf};
 ghost use Rattle.mk_plan.specs.Shapes.{IsClique};
 ghost use Rattle.mk_tree_engine.specs.Engines.{factor_home};
 
-use mk_net::{Network, VarSet};
+use mk_net::Network;
+use mk_sets::VarSet;
 use mk_tree::Tree;
 
 /// The first clique that holds a variable and its parents.

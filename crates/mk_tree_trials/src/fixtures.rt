@@ -1,13 +1,14 @@
 //! What the trials share: networks with their trees, from market files, and what trees and values have to be.
 
 ghost use Rattle.std.specs.Prelude.{◌≡◌, ℕ, ◌+◌, ◌<◌, ◌≤◌, length, slice_index, true, IfOk};
-ghost use Rattle.mk_net.specs.Sets.{is_member};
+ghost use Rattle.mk_sets.specs.Sets.{is_member};
 ghost use Rattle.mk_tree.specs.Given.{AreOfNetwork};
 ghost use Rattle.mk_tree.specs.Checked.{IsTreeOf};
 
 use mk_file::{MarketFile, read_market};
-use mk_net::{Network, VarSet};
+use mk_net::Network;
 use mk_semiring::Held;
+use mk_sets::VarSet;
 use std::alloc::Global;
 use std::process::Abort;
 use std::test::Fail;

@@ -3,7 +3,7 @@
 ghost use Rattle.std.specs.Prelude.{◌≡◌, ℕ, ◌+◌, ◌<◌, [], ◌∷◌, List, length, IfOk};
 ghost use Rattle.std.specs.List.{list_all};
 ghost use Rattle.mk_net.specs.Network.{Variable};
-ghost use Rattle.mk_net.specs.Sets.{is_member};
+ghost use Rattle.mk_sets.specs.Sets.{is_member};
 ghost use Rattle.mk_net.specs.Trades.{trade_ratio};
 ghost use Rattle.mk_tree.specs.Given.{clique_at, holds_event};
 ghost use Rattle.mk_tree.specs.Checked.{IsTreeOf};
@@ -13,10 +13,11 @@ ghost use Rattle.mk_tree_trials.specs.Placed.{HasSome, IsCollected, IsReady, Kee
 
 use crate::fixtures::check;
 use mk_file::MarketFile;
-use mk_net::{Event, Network, NoMemory, Pair, Question, Ratio, VarSet};
+use mk_net::{Event, Network, NoMemory, Pair, Question, Ratio};
 use mk_plan::Shape;
 use mk_propagate::Flow;
 use mk_semiring::{Held, MinProd, Semiring, SumProd};
+use mk_sets::VarSet;
 use mk_tree::Tree;
 use std::alloc::Global;
 use std::process::Abort;

@@ -1,7 +1,8 @@
 //! A tree of a small network, and trees at the limits of cliques.
 
 use crate::fixtures::{expect_links, expect_of_network, read};
-use mk_net::{Event, Network, Pair, VarSet};
+use mk_net::{Event, Network, Pair};
+use mk_sets::VarSet;
 use mk_tree::{Tree, TreeFault};
 use std::alloc::Global;
 use std::process::Abort;

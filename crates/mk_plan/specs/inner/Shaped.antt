@@ -2,7 +2,7 @@
 -- list of each clique's neighbours, for each clique the next cliques on the ways there, and for each variable where to look for its home.
 use Rattle.std.specs.Prelude.{◌≡◌, ℕ, ◌+◌, ◌-◌, ◌<◌, ◌≤◌, Bool, true, false, if◌then◌else◌, List, [], map, length, slice_index, slice_index_or}
 use Rattle.std.specs.List.{range_with_len}
-use Rattle.mk_net.specs.Sets.{VarSet, is_member}
+use Rattle.mk_sets.specs.Sets.{VarSet, is_member}
 use Rattle.mk_net.specs.Network.{Variable}
 use Rattle.mk_scope.specs.Scopes.{ScopeOf, PlacesOf, LiesIn}
 use Rattle.mk_tree.specs.Given.{GivenTree, AreLinked, clique_at, holds, link_of}

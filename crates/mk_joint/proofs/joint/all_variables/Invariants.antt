@@ -1,5 +1,5 @@
 use Rattle.std.proofs.Common.{◌≡◌, ℕ, ◌<◌, true}
-use Rattle.mk_net.specs.Sets.{is_member}
+use Rattle.mk_sets.specs.Sets.{is_member}
 use Rattle.mk_joint.proofs.joint.all_variables.Given as goal
 
 abbrev pub invariant-loop-variable : goal.invariant-loop-variable

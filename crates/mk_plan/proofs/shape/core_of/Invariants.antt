@@ -1,6 +1,6 @@
 use Rattle.std.proofs.Common.{◌≡◌, ℕ, take}
 use Rattle.std.specs.List.{list_any}
-use Rattle.mk_net.specs.Sets.{is_member}
+use Rattle.mk_sets.specs.Sets.{is_member}
 use Rattle.mk_tree.specs.Given.{holds}
 use Rattle.mk_plan.specs.Shapes.{neighbours}
 use Rattle.mk_plan.proofs.shape.core_of.Given as goal

@@ -1,6 +1,6 @@
 use Rattle.std.proofs.Common.{◌≡◌, ◌<◌, Bool, ◌∷◌, [], ◌++◌, List, ℕ, length, ap, sym, ◌∙◌, arith, append_assoc}
 use Rattle.std.proofs.lemmas.List.{length-map, append-nil}
-use Rattle.mk_net.specs.Sets.{is_member}
+use Rattle.mk_sets.specs.Sets.{is_member}
 use Rattle.mk_net.specs.Network.{Variable, sizes}
 use Rattle.mk_sums.specs.Cells.{keep}
 use Rattle.mk_sums.specs.Joint.{variables}

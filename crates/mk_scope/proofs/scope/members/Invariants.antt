@@ -1,5 +1,5 @@
 use Rattle.std.proofs.Common.{◌≡◌, ◌++◌, ℕ, ◌<◌, true, length}
-use Rattle.mk_net.specs.Sets.{is_member}
+use Rattle.mk_sets.specs.Sets.{is_member}
 use Rattle.mk_net.specs.Network.{sizes}
 use Rattle.mk_sums.specs.Cells.{keep}
 use Rattle.mk_sums.specs.Joint.{variables}

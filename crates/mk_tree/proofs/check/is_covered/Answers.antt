@@ -1,7 +1,7 @@
 use Rattle.std.proofs.Common.{rules, tests}
 use Rattle.std.proofs.lemmas.Iterator.{YieldsList-from_slice}
 use Rattle.std.proofs.lemmas.Iterator.Search.{any_from_yields_List}
-use Rattle.mk_net.specs.Sets.{IsSubset}
+use Rattle.mk_sets.specs.Sets.{IsSubset}
 use Rattle.mk_tree.specs.Tests.{holds_family}
 use Rattle.mk_tree.proofs.Families.{same_test}
 use Rattle.mk_tree.proofs.check.is_covered.Goals as goal

@@ -1,5 +1,5 @@
 use Rattle.std.proofs.Common.{◌&&◌, not, arith, ap₂, ◌∙◌}
-use Rattle.mk_net.specs.Sets.{VarSet, is_member}
+use Rattle.mk_sets.specs.Sets.{VarSet, is_member}
 use Rattle.mk_tree.proofs.Tested.{linked_earlier, top_after_first}
 use Rattle.mk_tree.proofs.check.top_variables.Goals as goal
 

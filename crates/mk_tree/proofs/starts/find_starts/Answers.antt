@@ -1,7 +1,7 @@
 use Rattle.std.proofs.Common.{arith, ◌≡◌, ◌-◌, suc, subst, sym, ap, ◌∙◌, get_or, rules}
 use Rattle.std.specs.Prelude.{if◌then◌else◌}
 use Rattle.std.proofs.lemmas.List.{get_or_default}
-use Rattle.mk_net.specs.Sets.{VarSet, is_member, no_variables}
+use Rattle.mk_sets.specs.Sets.{VarSet, is_member, no_variables}
 use Rattle.mk_tree.proofs.Begun.{StartFrom, none_started, more_started, all_started, written_over}
 use Rattle.mk_tree.proofs.starts.find_starts.Goals as goal
 

@@ -1,7 +1,7 @@
 use Rattle.std.proofs.Common.{◌<◌, length, slice_index_or, sym, subst, ◌∙◌, arith}
 use Rattle.std.proofs.lemmas.Bool.{eqb-false}
 use Rattle.std.proofs.lemmas.List.{get_or_default}
-use Rattle.mk_net.specs.Sets.{is_member}
+use Rattle.mk_sets.specs.Sets.{is_member}
 use Rattle.mk_tree.specs.Given.{holds_event}
 use Rattle.mk_plan.specs.Shapes.{ShapeOf}
 use Rattle.mk_plan.specs.inner.Shaped.{StartsAt}

@@ -1,6 +1,6 @@
 use Rattle.std.proofs.Common.{◌≡◌, [], ◌∷◌, true, Some, refl, sym, subst, ◌∙◌}
 use Rattle.std.proofs.lemmas.Bool.{and_parts}
-use Rattle.mk_net.specs.Sets.{is_member}
+use Rattle.mk_sets.specs.Sets.{is_member}
 use Rattle.mk_tree.specs.Given.{GivenTree, home, clique_at}
 use Rattle.mk_tree.proofs.Held.{home_is_held}
 use Rattle.mk_engine.specs.Meaning.{with_known}

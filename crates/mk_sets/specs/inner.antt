@@ -1,0 +1,2 @@
+-- How a set is kept.
+pub mod KeptSets

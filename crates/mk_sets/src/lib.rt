@@ -1,0 +1,6 @@
+//! Sets of variables.
+#![tactic(auto)]
+
+mod sets;
+
+pub use sets::VarSet;
