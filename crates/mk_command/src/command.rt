@@ -2,7 +2,7 @@
 
 ghost use Rattle.std.specs.Prelude.{◌≡◌};
 ghost use Rattle.mk_command.specs.Commands.{command_of};
-ghost use Rattle.mk_command.specs.inner.Kinds.{IsOfValues};
+ghost use Rattle.mk_command.specs.inner.Kinds.{IsOfValues, IsSpread};
 
 use arrayvec::ArrayVec;
 use mk_addition::AddText;
@@ -250,19 +250,7 @@ impl Command {
                 variable: *variable,
                 condition,
             },
-            Command::Spread {
-                user,
-                variable,
-                condition,
-                to,
-                at,
-            } => CommandRef::Spread {
-                user: *user,
-                variable: *variable,
-                condition,
-                to,
-                at: *at,
-            },
+            Command::Spread { .. } => self.lend_spread(),
             Command::Prices {
                 variable,
                 condition,
@@ -278,6 +266,30 @@ impl Command {
                 user: *user,
                 variable: *variable,
                 condition,
+            },
+            _ => unreachable!(),
+        }
+    }
+
+    /// The same, of an edit of every value of a variable.
+    #[tactic(auto, unfolding(crate::specs::Commands::command_of))]
+    fn lend_spread(&self) -> CommandRef<'_>
+        requires { IsSpread self.now }
+        ensures { command_of result ≡ self.now }
+    {
+        match self {
+            Command::Spread {
+                user,
+                variable,
+                condition,
+                to,
+                at,
+            } => CommandRef::Spread {
+                user: *user,
+                variable: *variable,
+                condition,
+                to,
+                at: *at,
             },
             _ => unreachable!(),
         }

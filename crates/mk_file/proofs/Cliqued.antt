@@ -12,7 +12,7 @@ use Rattle.mk_net.specs.Network.{Variable}
 use Rattle.mk_sets.specs.Sets.{VarSet, is_member, no_variables, with_member, set_of}
 use Rattle.mk_net.specs.Texts.{same_text}
 use Rattle.mk_net.specs.Checked.{has_double}
-use Rattle.mk_net.proofs.Members.{set_of_none, set_of_more}
+use Rattle.mk_sets.proofs.Members.{set_of_none, set_of_more}
 use Rattle.mk_net.proofs.SameText.{equal_of_same_text, same_text_of_equal}
 use Rattle.mk_file.specs.inner.Known.{number_in, is_known_in, is_bad_clique, set_in, IsSetOf}
 

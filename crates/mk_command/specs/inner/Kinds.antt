@@ -10,3 +10,8 @@ IsOfValues (Spread user variable condition to at) = ⊤
 IsOfValues (Prices variable condition) = ⊤
 IsOfValues (Position user variable condition) = ⊤
 IsOfValues _ = ⊥
+
+-- an edit of every value of a variable
+abbrev pub IsSpread : Command → Type 0
+IsSpread (Spread user variable condition to at) = ⊤
+IsSpread _ = ⊥
