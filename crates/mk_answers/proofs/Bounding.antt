@@ -26,6 +26,7 @@ use Rattle.mk_enclose.specs.declared.enclosure.Enclosure.{Enclosure}
 use Rattle.mk_enclose.specs.declared.factor.Factor.{Factor}
 use Rattle.mk_enclose.specs.Enclosure.{upper_of, Encloses, HasGrade, IsExact, IsGradedWithin}
 use Rattle.mk_enclose.specs.Enclosure.{widest_grade}
+use Rattle.mk_semiring.specs.declared.held.Held.{Held}
 use Rattle.mk_semiring.specs.declared.held.Held.TheVariants.{Present}
 use Rattle.mk_semiring.specs.Held.{held_plus_fits}
 use Rattle.mk_engine.specs.Meaning.{Meaning, exact_belief, max_factors, max_grade}
@@ -51,6 +52,10 @@ pub record IsSumOf (a b sum : Enclosure) : Type 0 where
   pub encloses : (v w : ℕ) → Encloses a v → Encloses b w → Encloses sum (v + w)
   pub grade : (g h : ℕ) → HasGrade a g → HasGrade b h → HasGrade sum (max g h + 1)
   pub exact : IsExact a → IsExact b → upper_of a + upper_of b < 2 ^ 63 → IsExact sum
+
+-- a belief whose value is known
+pub at_value : (small : Type 0) (n : ℕ) (a b : Held) → a ≡ b → IsBeliefIn a small n → IsBeliefIn b small n
+at_value small n a b e h = subst (λ (x : Held). IsBeliefIn x small n) e h
 
 pub sum_fits : (a b : Enclosure) (small : Type 0) (v w : ℕ) → IsBeliefIn (Present a) small v → IsBeliefIn (Present b) small w → IsInRange (upper_of a + upper_of b)
 sum_fits a b small v w a_in b_in = held_plus_fits (Present a) (Present b) max_side_grade a_in.grade b_in.grade (omega arith)

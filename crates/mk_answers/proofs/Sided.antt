@@ -15,7 +15,7 @@ use Rattle.mk_answers.specs.Results.{IsPriceFor}
 use Rattle.mk_answers.proofs.Presence.{weighed_comes, absent_never}
 
 -- nothing of something, and all of it
-covers_nothing : (small : Type 0) (near w : ℕ) → 2 ≤ near → 1 ≤ w
+pub covers_nothing : (small : Type 0) (near w : ℕ) → 2 ≤ near → 1 ≤ w
     → CoversPrice small near (record { num = 0; den = w }) 0 0
 covers_nothing small near w wide some =
     let whole : 1 ≤ w * near = one-le-mul some (omega arith) in
@@ -32,7 +32,7 @@ covers_nothing small near w wide some =
       ceiling = λ s. omega arith;
     }
 
-covers_all : (small : Type 0) (near w : ℕ) → 2 ≤ near → 1 ≤ w
+pub covers_all : (small : Type 0) (near w : ℕ) → 2 ≤ near → 1 ≤ w
     → CoversPrice small near (record { num = w; den = w }) (10 ^ 10) (10 ^ 10)
 covers_all small near w wide some =
     let whole : 1 ≤ w * near = one-le-mul some (omega arith) in

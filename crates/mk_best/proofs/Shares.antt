@@ -1,7 +1,6 @@
 -- Beliefs in the states that are left, and the share of a part in a whole.
 use Rattle.std.proofs.Common.{◌≡◌, ℕ, ◌+◌, ◌^◌, ◌≤◌, ◌&&◌, List, [], ◌∷◌, length, slice_index, Some}
 use Rattle.std.proofs.Common.{◌-◌, ◌*◌, ◌<◌, not, refl, sym, ap, subst, ◌∙◌, arith, le_refl}
-use Rattle.std.proofs.Math.Nat.{mul-le-mul_left, one-le-mul}
 use Rattle.std.proofs.lemmas.List.Elements.{All-from_recursion}
 use Rattle.mk_net.specs.declared.words.Pair.{Pair}
 use Rattle.mk_net.specs.Bounds.{max_market_trades, max_values, sharpness, grade_room}
@@ -29,6 +28,7 @@ use Rattle.mk_engine.specs.Beliefs.{IsBelief}
 use Rattle.mk_beliefs.specs.Meanings.{weights_of}
 use Rattle.mk_beliefs.proofs.Weighed.{belief_is_total, others_are_total, weights_are_small}
 use Rattle.mk_beliefs.proofs.Grown.{factors_are_few, factors_by_trades}
+use Rattle.mk_answers.proofs.Sided.{covers_nothing as nothing_covered, covers_all as all_covered}
 use Rattle.mk_answers.specs.inner.Found.{IsBeliefIn, max_side_grade}
 use Rattle.mk_answers.proofs.Room.{within_room}
 use Rattle.mk_answers.proofs.Weaker.{covers_when}
@@ -78,42 +78,6 @@ room_in network tree H legal few event belief b =
     (grade_room count) b.grade
     (few_steps (length (weights_of network tree H).factors) count (grade_room count)
     (factors_by_trades network tree H 0 legal).0 (within_room count count (le_refl count) few))
-
--- nothing of something, and all of it
-nothing_covered : (small : Type 0) (near w : ℕ) → 2 ≤ near → 1 ≤ w
-    → CoversPrice small near (record { num = 0; den = w }) 0 0
-nothing_covered small near w wide some =
-    let whole : 1 ≤ w * near = one-le-mul some (omega arith) in
-    let less : 1 ≤ w * (near - 1) = one-le-mul some (omega arith) in
-    record {
-      below = omega arith;
-      above = omega arith;
-      at_most_one = omega arith;
-      low_near = omega (arith, whole);
-      high_near = omega (arith, less);
-      never = λ e. refl;
-      sure = λ e. absurd (omega arith);
-      floor = λ s. omega arith;
-      ceiling = λ s. omega arith;
-    }
-
-all_covered : (small : Type 0) (near w : ℕ) → 2 ≤ near → 1 ≤ w
-    → CoversPrice small near (record { num = w; den = w }) (10 ^ 10) (10 ^ 10)
-all_covered small near w wide some =
-    let whole : 1 ≤ w * near = one-le-mul some (omega arith) in
-    let less : 1 ≤ w * (near - 1) = one-le-mul some (omega arith) in
-    let most : w * (near - 1) ≤ w * near = mul-le-mul_left w (omega arith) in
-    record {
-      below = omega arith;
-      above = omega arith;
-      at_most_one = omega arith;
-      low_near = omega (arith, whole, most);
-      high_near = omega (arith, less, most);
-      never = λ e. absurd (omega arith);
-      sure = λ e. refl;
-      floor = λ s. omega arith;
-      ceiling = λ s. omega arith;
-    }
 
 pub covers_nothing : (small : Type 0) (near v w : ℕ) → 2 ≤ near → v ≡ 0 → 1 ≤ w
     → CoversPrice small near (record { num = v; den = w }) 0 0

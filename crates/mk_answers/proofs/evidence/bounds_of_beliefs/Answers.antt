@@ -1,17 +1,11 @@
-use Rattle.std.proofs.Common.{◌≡◌, ℕ, ◌+◌, max, subst, arith}
+use Rattle.std.proofs.Common.{◌≡◌, ℕ, ◌+◌, max, arith}
 use Rattle.mk_exact.specs.Weight.{IsSmall}
-use Rattle.mk_semiring.specs.declared.held.Held.{Held}
-use Rattle.mk_answers.specs.inner.Found.{IsBeliefIn}
 use Rattle.mk_answers.proofs.Presence.{some_weight}
-use Rattle.mk_answers.proofs.Bounding.{sum_fits, sum_is_whole}
+use Rattle.mk_answers.proofs.Bounding.{at_value, sum_fits, sum_is_whole}
 use Rattle.mk_answers.proofs.Priced.{sum_is_few, unbounded, bounded_never, bounded_always}
 use Rattle.mk_answers.proofs.Priced.{bounded_between}
 use Rattle.mk_answers.proofs.Regraded.{graded_within, held_grade}
 use Rattle.mk_answers.proofs.evidence.bounds_of_beliefs.Goals as goal
-
--- a belief whose value is known
-at_value : (small : _) (n : ℕ) (a b : Held) → a ≡ b → IsBeliefIn a small n → IsBeliefIn b small n
-at_value small n a b e h = subst (λ (x : Held). IsBeliefIn x small n) e h
 
 pub add-requires : goal.add-requires
 add-requires c =

@@ -116,10 +116,4 @@ returns-clause-price g c = λ tree H most_trades stands is_open fit answered.
     (event_graded network tree H is_open most_trades fit c.condition-condition.result
     c.belief-whole.result on_whole))
     (miss_some network tree H is_open asked answered no_shares) c.parts.result.0 c.parts.result.1
-    (record {
-      low_is = c.parts.ensures.low;
-      high_is = c.parts.ensures.high;
-      below =
-          c.parts.ensures.below;
-      above = c.parts.ensures.above;
-    }))
+    (assumption c.parts.ensures))

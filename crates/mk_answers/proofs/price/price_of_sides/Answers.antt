@@ -1,18 +1,12 @@
-use Rattle.std.proofs.Common.{◌≡◌, ℕ, ◌-◌, subst}
+use Rattle.std.proofs.Common.{◌≡◌, ℕ, ◌-◌}
 use Rattle.mk_net.specs.Bounds.{grade_room}
 use Rattle.mk_exact.specs.Weight.{IsSmall}
-use Rattle.mk_semiring.specs.declared.held.Held.{Held}
-use Rattle.mk_answers.specs.inner.Found.{IsBeliefIn}
 use Rattle.mk_answers.proofs.Presence.{some_weight}
-use Rattle.mk_answers.proofs.Bounding.{IsSumOf, sum_fits, sum_is_whole, sum_graded}
+use Rattle.mk_answers.proofs.Bounding.{at_value, IsSumOf, sum_fits, sum_is_whole, sum_graded}
 use Rattle.mk_answers.proofs.Regraded.{held_grade, graded_of_present}
 use Rattle.mk_answers.proofs.Weights.{ends_in_order, interval_covers}
 use Rattle.mk_answers.proofs.Sided.{priced, unpriced, priced_never, priced_sure}
 use Rattle.mk_answers.proofs.price.price_of_sides.Goals as goal
-
--- a belief whose value is known
-at_value : (small : _) (n : ℕ) (a b : Held) → a ≡ b → IsBeliefIn a small n → IsBeliefIn b small n
-at_value small n a b e h = subst (λ (x : Held). IsBeliefIn x small n) e h
 
 pub add-requires : goal.add-requires
 add-requires c =
@@ -64,10 +58,4 @@ returns-in-Present-Present c = λ network H most_trades asked net proper sides o
     (held_grade c.args.part.now w.part (grade_room most_trades - 1) w.is-0 on_part)
     (held_grade c.args.rest.now w.rest (grade_room most_trades - 1) w.is-1 on_rest))
     (some_weight w.rest _ miss.encloses) c.parts.result.0 c.parts.result.1
-    (record {
-      low_is = c.parts.ensures.low;
-      high_is = c.parts.ensures.high;
-      below =
-          c.parts.ensures.below;
-      above = c.parts.ensures.above;
-    }))
+    (assumption c.parts.ensures))

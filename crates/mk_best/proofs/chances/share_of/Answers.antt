@@ -28,10 +28,4 @@ returns-in-Present c = λ network H v w are.
     c.in-Present.is are in
     covers_part network H c.in-Present.part c.args.whole.now v w c.parts.result.0 c.parts.result.1
     here
-    (record {
-      low_is = c.parts.ensures.low;
-      high_is = c.parts.ensures.high;
-      below =
-          c.parts.ensures.below;
-      above = c.parts.ensures.above;
-    })
+    (assumption c.parts.ensures)

@@ -1,18 +1,13 @@
-use Rattle.std.proofs.Common.{◌∙◌}
-use Rattle.mk_record.proofs.Counts.{after_withdrawal}
+use Rattle.std.specs.Prelude.{◌+◌, ◌≤◌}
+use Rattle.std.proofs.Common.{arith}
+use Rattle.mk_exact.specs.History.{Withdraw}
+use Rattle.mk_record.proofs.Counts.{after, still_limited}
 use Rattle.mk_record.proofs.journal.Journal.withdraw.Goals as goal
 
 pub invariant_of-self : goal.invariant_of-self
 invariant_of-self c =
-    let j : _ = c.self.inside in
-    let limits : _ = c.self.invariant.1 in
-    let counted : _ = after_withdrawal j.accepted.history j.limits _ _ _ _ _ j.settled c.args.user c.args.bits c.self.invariant.0
-    (rw (← c.self.view_is) at c.requires) in (
-      rw (c.withdraw.ensures.history) counted,
-      record {
-        same_trades = c.withdraw.ensures.limit ∙ limits.same_trades;
-        same_users = c.withdraw.ensures.users ∙ limits.same_users;
-        same_transfers = c.withdraw.ensures.transfers ∙ limits.same_transfers;
-      },
+    let room : c.self.inside.transfers + 1 ≤ c.self.inside.limits.transfers = omega (arith, c.self.invariant.0.transfers_made, rw (← c.self.view_is) at c.requires) in (
+      rw c.withdraw.ensures.history (after c.self.inside.accepted.history (Withdraw c.args.user c.args.bits) c.self.inside.limits _ _ _ _ _ _ c.self.invariant.0 (assumption (c.self.invariant.0.few, room))),
+      still_limited _ _ c.self.inside.limits c.withdraw.ensures.limit c.withdraw.ensures.users c.withdraw.ensures.transfers c.self.invariant.1,
       c.self.invariant.2,
     )
