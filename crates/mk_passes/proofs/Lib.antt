@@ -5,7 +5,7 @@ pub mod OnesSum
 pub mod Paired
 pub mod Unrounded
 pub mod Spread
-pub mod Anew
+pub mod Making
 pub mod Placed
 pub mod Rows
 pub mod Summed

@@ -1,17 +1,13 @@
 -- The plus of products: each chosen cell of a table times the cell of another that has its values.
-use Rattle.std.proofs.Common.{◌≡◌, ℕ, ◌+◌, ◌*◌, ◌^◌, ◌<◌, ◌≤◌, List, [], ◌∷◌, length, get_or, take, drop, slice_index, All, refl, sym, ap, subst, ◌∙◌, ⊎_elim, arith, lt_of_le_of_lt, zero-add, ◌-◌}
-use Rattle.std.proofs.lemmas.Bool.{cases_lt}
-use Rattle.std.proofs.lemmas.Nat.{pow_pos, shl_below}
-use Rattle.std.proofs.Math.Nat.{mul_comm, mul-le-mul_left}
+use Rattle.std.proofs.Common.{◌≡◌, ℕ, ◌+◌, ◌*◌, ◌<◌, ◌≤◌, List, [], ◌∷◌, length, get_or, take, drop, slice_index, All, refl, sym, ap, subst, ◌∙◌, arith, zero-add, ◌-◌}
+use Rattle.std.proofs.Math.Nat.{mul_comm}
 use Rattle.std.proofs.lemmas.List.{take-map, drop-map}
 use Rattle.mk_states.specs.Lawful.{Lawful}
 use Rattle.mk_states.specs.States.{plus_over}
 use Rattle.mk_states.proofs.Sums.{plus_over-map}
 use Rattle.mk_cell.specs.Passes.{plus_below}
-use Rattle.mk_scaled.specs.Range.{two_to, two_to-small, two_to-lt, mul_at_most, exponent_below, pow-lt_reflects}
-use Rattle.mk_cell.specs.Cell.{bias, bias-is, IsCell, StandsAt, AllStand}
+use Rattle.mk_cell.specs.Cell.{IsCell, StandsAt, AllStand}
 use Rattle.mk_cell.specs.inner.Laws.{stands_with_more, has_room}
-use Rattle.mk_cell.specs.inner.LowerEnd.{at_least_one}
 use Rattle.std.proofs.lemmas.List.Elements.{All-map}
 use Rattle.mk_passes.specs.Blank.{one_digits, one_exponent, filled}
 use Rattle.mk_passes.specs.Parts.{StandPairs, StandListed, MakesPlusOfPairs, HaveRoom, block_of}

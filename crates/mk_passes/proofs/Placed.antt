@@ -29,6 +29,9 @@ module _ (part whole : ScopeOf) (bases offsets : List ℕ) (run : ℕ) (are : Ar
       (All-weaker (λ c. ((cell_in part whole c == d) ≡ true) × (c < cells_in whole)) P (λ c p. h c p.1 (eqb-true (cell_in part whole c) d p.0)) (cells_onto part whole d)
       (chosen_pass (λ c. cell_in part whole c == d) (cells_in whole)))
 
+  pub placed_below : (n : ℕ) → n ≡ cells_in whole → All (λ k. k < n) here
+  placed_below n e = subst (λ m. All (λ k. k < m) here) (sym e) (placed_each (λ k. k < cells_in whole) (λ k m i. m))
+
   pub placed_rising : Rising here
   placed_rising = subst (λ (ys : List ℕ). Rising ys) (sym (are.onto d l)) (chosen_rising (λ c. cell_in part whole c == d) (cells_in whole))
 

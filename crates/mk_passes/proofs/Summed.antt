@@ -2,14 +2,15 @@
 use Rattle.std.proofs.Common.{◌≡◌, ℕ, zero, suc, ◌+◌, ◌-◌, ◌*◌, ◌<◌, ◌≤◌, List, length, take, drop, slice_index, All, refl, sym, ap, subst, ◌∙◌, arith}
 use Rattle.std.specs.List.{range_with_len}
 use Rattle.std.proofs.Math.Nat.{mul-le-mul}
-use Rattle.std.proofs.lemmas.List.{get_or-take, get_or-drop, length-take, length-drop}
+use Rattle.std.proofs.lemmas.List.{get_or-take, get_or-drop, length-take, length-drop, take_all}
 use Rattle.mk_states.specs.Lawful.{Lawful}
 use Rattle.mk_states.specs.States.{plus_over}
 use Rattle.mk_states.proofs.Sums.{plus_over-flat_map}
 use Rattle.mk_cell.specs.Passes.{plus_below}
+use Rattle.mk_cell.specs.inner.Laws.{stands_with_more}
 use Rattle.mk_cell.specs.Cell.{AllStand, AreCells, IsCell, StandsAt}
 use Rattle.mk_passes.specs.Parts.{HaveRoom, StandListed, block_of}
-use Rattle.mk_scope.proofs.Runs.{by_runs, of_runs}
+use Rattle.mk_scope.proofs.Runs.{by_runs, of_runs, runs_single}
 use Rattle.mk_scope.specs.Runs.{runs_of}
 use Rattle.mk_scope.proofs.Members.{range_more}
 use Rattle.mk_passes.proofs.Blocked.{is_plus, plus_over_push, block_within}
@@ -110,3 +111,18 @@ steps_of_list run (suc r) l = let s = steps_of_blocks run (suc r) 0 l (omega ari
 
 pub more_runs_steps : (run a b : ℕ) → a ≤ b → a * (2 * run - 1) ≤ b * (2 * run - 1)
 more_runs_steps run a b l = block_runs_few (2 * run - 1) a b l
+
+-- ---- single cells
+
+-- so many single cells
+pub few_cells : (plus : ℕ → ℕ → ℕ) (run count base : ℕ) (xs d e : List ℕ) (q x : ℕ) → run ≡ 1 → length xs ≡ count → 1 ≤ count
+    → ((k : ℕ) (f : ℕ → ℕ) (n : ℕ) → StandListed k d e f n base (take count xs) → StandsAt k q x (plus_over plus 0 (λ c. f (base + c)) (take count xs)) (n + length (take count xs)))
+    → (k : ℕ) (f : ℕ → ℕ) (n : ℕ) → StandListed k d e f n base (runs_of run xs) → StandsAt k q x (plus_over plus 0 (λ c. f (base + c)) (runs_of run xs)) (n + (2 * length (runs_of run xs) - 1))
+few_cells plus run count base xs d e q x one long some h k f n a =
+    let all : take count xs ≡ xs = take_all count xs (omega (arith, long)) in
+    let runs : runs_of run xs ≡ xs = ap (λ r. runs_of r xs) one ∙ runs_single xs in
+    let made : StandsAt k q x (plus_over plus 0 (λ c. f (base + c)) xs) (n + length xs) =
+    subst (λ (ys : List ℕ). StandListed k d e f n base ys → StandsAt k q x (plus_over plus 0 (λ c. f (base + c)) ys) (n + length ys)) all (h k f n)
+    (subst (λ (ys : List ℕ). StandListed k d e f n base ys) runs a) in
+    subst (λ (ys : List ℕ). StandsAt k q x (plus_over plus 0 (λ c. f (base + c)) ys) (n + (2 * length ys - 1))) (sym runs)
+    (stands_with_more k q x (plus_over plus 0 (λ c. f (base + c)) xs) (n + length xs) (n + (2 * length xs - 1)) (omega (arith, long, some)) made)

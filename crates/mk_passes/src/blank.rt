@@ -11,8 +11,9 @@ ghost use Rattle.mk_passes.specs.Blank.{one_digits, one_exponent, filled};
 ghost use Rattle.mk_passes.specs.Parts.{AreBlankOrFull, AreHeld, HaveRoom, IsChanged, IsTimesCell, StandListed};
 ghost use Rattle.mk_scope.specs.Runs.{runs_of};
 
-use crate::blocks::{plus_at, plus_at_each};
+use crate::blocks::{plus_at, put_sums};
 use crate::columns::{Columns, Lists};
+use crate::made::First;
 use mk_cell::Cell;
 use mk_semiring::Semiring;
 
@@ -143,7 +144,8 @@ pub fn plus_of_each<R: Semiring>(
         put_everywhere(out_digits, out_exponents, cell, lists.bases.len());
     } else {
         fill(out_digits, out_exponents, lists.bases.len());
-        plus_at_each::<R>(from, lists, out_digits, out_exponents);
+        let all = First(lists.bases.len());
+        put_sums::<R, First>(from, lists, all, out_digits, out_exponents);
     }
 }
 

@@ -6,9 +6,11 @@ ghost use Rattle.mk_states.specs.States.{plus_over};
 ghost use Rattle.mk_cell.specs.Cell.{AreCells, Stands, StandsAt};
 ghost use Rattle.std.specs.List.{range_with_len};
 ghost use Rattle.mk_passes.specs.Parts.{HaveRoom, StandListed, block_of};
+ghost use Rattle.mk_passes.specs.inner.Made.{AreMade, AreSingles, CanAdd, CanPut, MakesPlus};
 ghost use Rattle.mk_scope.specs.Runs.{runs_of};
 
 use crate::columns::{Columns, Lists};
+use crate::made::{Listed, Maker, put_made};
 use mk_cell::Cell;
 use mk_semiring::Semiring;
 
@@ -18,106 +20,70 @@ const FEW: usize = 8;
 /// The cells of a block, and the blocks of a list.
 const BLOCK: usize = 64;
 
-/// Puts into each cell of a table the plus of the runs of cells that begin so far from the cell's base.
-pub(crate) fn plus_at_each<R: Semiring>(
+/// What makes the plus of the runs of cells that begin so far from a cell's base.
+#[derive(Clone, Copy)]
+struct Sums<'a> {
+    from: Columns<'a>,
+    lists: Lists<'a>,
+}
+
+impl<'a> Maker for Sums<'a> {
+    ghost ready = { λ s. Unit {0} };
+
+    ghost can = { λ s. CanAdd s.from.digits.now s.from.exponents.now s.lists.bases.now s.lists.offsets.now s.lists.run };
+
+    ghost makes = { λ plus s. MakesPlus plus s.from.digits.now s.from.exponents.now s.lists.bases.now (runs_of s.lists.run s.lists.offsets.now) };
+
+    #[inline(always)]
+    fn make<R: Semiring>(self, cell: usize) -> Cell {
+        let Sums { from, lists } = self;
+        let base = lists.bases[cell] as usize;
+        plus_at::<R>(from.digits, from.exponents, base, lists.offsets, lists.run)
+    }
+}
+
+/// The same of `N` single cells. The compiler knows their number, and writes the passes over them without a loop.
+#[derive(Clone, Copy)]
+struct FewSums<'a, const N: usize>(Sums<'a>);
+
+impl<'a, const N: usize> Maker for FewSums<'a, N> {
+    ghost ready = { λ s. AreSingles N s.0.lists.run s.0.lists.offsets.now };
+
+    ghost can = { λ s. CanAdd s.0.from.digits.now s.0.from.exponents.now s.0.lists.bases.now s.0.lists.offsets.now s.0.lists.run };
+
+    ghost makes = { λ plus s. MakesPlus plus s.0.from.digits.now s.0.from.exponents.now s.0.lists.bases.now (runs_of s.0.lists.run s.0.lists.offsets.now) };
+
+    #[inline(always)]
+    fn make<R: Semiring>(self, cell: usize) -> Cell {
+        let Sums { from, lists } = self.0;
+        let base = lists.bases[cell] as usize;
+        plus_of_cells::<R, N>(from.digits, from.exponents, base, &lists.offsets[..N])
+    }
+}
+
+/// Puts into each cell that is listed the plus of the runs of cells that begin so far from the cell's base.
+pub(crate) fn put_sums<R: Semiring, C: Listed>(
     from: Columns,
     lists: Lists,
-    out_digits: &mut [u64],
-    out_exponents: &mut [u32],
+    cells: C,
+    digits: &mut [u64],
+    exponents: &mut [u32],
 )
-    requires some { 1 ≤ lists.run }
-    requires few { length (runs_of lists.run lists.offsets.now) ≤ max_clique_cells }
-    requires within { (b : ℕ) → b < length lists.bases.now
-        → All (λ c. slice_index lists.bases.now b + c < length from.digits.now) (runs_of lists.run lists.offsets.now) }
-    requires room { (k : ℕ) × HaveRoom k from.digits.now from.exponents.now (2 * length (runs_of lists.run lists.offsets.now)) }
-    requires digits { length out_digits.old ≡ length lists.bases.now }
-    requires exponents { length out_exponents.old ≡ length lists.bases.now }
-    ensures stand { (b : ℕ) → b < length lists.entry.bases.now → (k : ℕ) (f : ℕ → ℕ) (n : ℕ)
-        → StandListed k from.entry.digits.now from.entry.exponents.now f n (slice_index lists.entry.bases.now b)
-        (runs_of lists.entry.run lists.entry.offsets.now)
-        → StandsAt k (slice_index out_digits.new b) (slice_index out_exponents.new b)
-        (plus_over R.plus_of 0 (λ c. f (slice_index lists.entry.bases.now b + c)) (runs_of lists.entry.run lists.entry.offsets.now))
-        (n + (2 * length (runs_of lists.entry.run lists.entry.offsets.now) - 1)) }
-    ensures same_digits { length out_digits.new ≡ length out_digits.old }
-    ensures same_exponents { length out_exponents.new ≡ length out_exponents.old }
+    requires { CanPut (CanAdd from.digits.now from.exponents.now lists.bases.now lists.offsets.now lists.run) (C.cells cells) digits.old exponents.old }
+    ensures { AreMade (MakesPlus R.plus_of from.entry.digits.now from.entry.exponents.now lists.entry.bases.now (runs_of lists.entry.run lists.entry.offsets.now))
+        (C.cells cells) (length (C.cells cells)) digits.old exponents.old digits.new exponents.new }
 {
+    let sums = Sums { from, lists };
     if lists.run > 1 {
-        return any_at_each::<R>(from, lists, out_digits, out_exponents);
+        return put_made::<R, Sums, C>(sums, cells, digits, exponents);
     }
     match lists.offsets.len() {
-        1 => few_at_each::<R, 1>(from, lists, out_digits, out_exponents),
-        2 => few_at_each::<R, 2>(from, lists, out_digits, out_exponents),
-        4 => few_at_each::<R, 4>(from, lists, out_digits, out_exponents),
-        8 => few_at_each::<R, 8>(from, lists, out_digits, out_exponents),
-        16 => few_at_each::<R, 16>(from, lists, out_digits, out_exponents),
-        _ => any_at_each::<R>(from, lists, out_digits, out_exponents),
-    }
-}
-
-/// The same for any number of offsets.
-fn any_at_each<R: Semiring>(
-    from: Columns,
-    lists: Lists,
-    out_digits: &mut [u64],
-    out_exponents: &mut [u32],
-)
-    requires some { 1 ≤ lists.run }
-    requires few { length (runs_of lists.run lists.offsets.now) ≤ max_clique_cells }
-    requires within { (b : ℕ) → b < length lists.bases.now
-        → All (λ c. slice_index lists.bases.now b + c < length from.digits.now) (runs_of lists.run lists.offsets.now) }
-    requires room { (k : ℕ) × HaveRoom k from.digits.now from.exponents.now (2 * length (runs_of lists.run lists.offsets.now)) }
-    requires digits { length out_digits.old ≡ length lists.bases.now }
-    requires exponents { length out_exponents.old ≡ length lists.bases.now }
-    ensures stand { (b : ℕ) → b < length lists.entry.bases.now → (k : ℕ) (f : ℕ → ℕ) (n : ℕ)
-        → StandListed k from.entry.digits.now from.entry.exponents.now f n (slice_index lists.entry.bases.now b)
-        (runs_of lists.entry.run lists.entry.offsets.now)
-        → StandsAt k (slice_index out_digits.new b) (slice_index out_exponents.new b)
-        (plus_over R.plus_of 0 (λ c. f (slice_index lists.entry.bases.now b + c)) (runs_of lists.entry.run lists.entry.offsets.now))
-        (n + (2 * length (runs_of lists.entry.run lists.entry.offsets.now) - 1)) }
-    ensures same_digits { length out_digits.new ≡ length out_digits.old }
-    ensures same_exponents { length out_exponents.new ≡ length out_exponents.old }
-{
-    let Columns { digits, exponents } = from;
-    let Lists {
-        bases,
-        offsets,
-        run,
-    } = lists;
-    for place in 0..bases.len() {
-        let cell = plus_at::<R>(digits, exponents, bases[place] as usize, offsets, run);
-        out_digits[place] = cell.digits;
-        out_exponents[place] = cell.exponent;
-    }
-}
-
-/// Puts into each cell of a table the plus of the `N` cells that lie so far from the cell's base, whatever the lists' run is. The
-/// compiler knows their number, and writes the passes over them without a loop.
-fn few_at_each<R: Semiring, const N: usize>(
-    from: Columns,
-    lists: Lists,
-    out_digits: &mut [u64],
-    out_exponents: &mut [u32],
-)
-    requires count { length lists.offsets.now ≡ N }
-    requires small { N ≤ 64 }
-    requires within { (b : ℕ) → b < length lists.bases.now
-        → All (λ c. slice_index lists.bases.now b + c < length from.digits.now) lists.offsets.now }
-    requires cells { AreCells from.digits.now from.exponents.now }
-    requires digits { length out_digits.old ≡ length lists.bases.now }
-    requires exponents { length out_exponents.old ≡ length lists.bases.now }
-    ensures stand { (b : ℕ) → b < length lists.entry.bases.now → (k : ℕ) (f : ℕ → ℕ) (n : ℕ)
-        → StandListed k from.entry.digits.now from.entry.exponents.now f n (slice_index lists.entry.bases.now b) lists.entry.offsets.now
-        → StandsAt k (slice_index out_digits.new b) (slice_index out_exponents.new b)
-        (plus_over R.plus_of 0 (λ c. f (slice_index lists.entry.bases.now b + c)) lists.entry.offsets.now) (n + length lists.entry.offsets.now) }
-    ensures same_digits { length out_digits.new ≡ length out_digits.old }
-    ensures same_exponents { length out_exponents.new ≡ length out_exponents.old }
-{
-    let Columns { digits, exponents } = from;
-    let Lists { bases, offsets, .. } = lists;
-    for place in 0..bases.len() {
-        let cell = plus_of_cells::<R, N>(digits, exponents, bases[place] as usize, &offsets[..N]);
-        out_digits[place] = cell.digits;
-        out_exponents[place] = cell.exponent;
+        1 => put_made::<R, FewSums<1>, C>(FewSums(sums), cells, digits, exponents),
+        2 => put_made::<R, FewSums<2>, C>(FewSums(sums), cells, digits, exponents),
+        4 => put_made::<R, FewSums<4>, C>(FewSums(sums), cells, digits, exponents),
+        8 => put_made::<R, FewSums<8>, C>(FewSums(sums), cells, digits, exponents),
+        16 => put_made::<R, FewSums<16>, C>(FewSums(sums), cells, digits, exponents),
+        _ => put_made::<R, Sums, C>(sums, cells, digits, exponents),
     }
 }
 
@@ -204,28 +170,8 @@ fn plus_of_block<R: Semiring, const N: usize>(
         → Stands k result (plus_over R.plus_of 0 (λ c. f (base + c)) (runs_of run offsets.now)) (n + length offsets.now * (2 * run - 1)) }
 {
     if run == 1 {
-        plus_of_cells::<R, N>(digits, exponents, base, offsets)
-    } else {
-        plus_of_runs::<R, N>(digits, exponents, base, offsets, run)
+        return plus_of_cells::<R, N>(digits, exponents, base, offsets);
     }
-}
-
-/// The plus of at most `N` runs of at least two cells, which begin so far from a base.
-fn plus_of_runs<R: Semiring, const N: usize>(
-    digits: &[u64],
-    exponents: &[u32],
-    base: usize,
-    offsets: &[u16],
-    run: usize,
-) -> Cell
-    requires some { 2 ≤ run }
-    requires few { length offsets.now ≤ N }
-    requires small { N ≤ 64 }
-    requires within { All (λ c. base + c < length digits.now) (runs_of run offsets.now) }
-    requires room { (k : ℕ) × HaveRoom k digits.now exponents.now (2 * length (runs_of run offsets.now)) }
-    ensures { (k : ℕ) (f : ℕ → ℕ) (n : ℕ) → StandListed k digits.now exponents.now f n base (runs_of run offsets.now)
-        → Stands k result (plus_over R.plus_of 0 (λ c. f (base + c)) (runs_of run offsets.now)) (n + length offsets.now * (2 * run - 1)) }
-{
     let count = offsets.len();
     let mut run_digits = [0u64; N];
     let mut run_exponents = [0u32; N];

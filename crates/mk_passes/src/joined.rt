@@ -1,16 +1,20 @@
 //! The plus of products of a table's cells by those of another, for each cell of a third.
 
 ghost use Rattle.std.specs.Prelude.{◌≡◌, ℕ, ◌+◌, ◌*◌, ◌<◌, ◌≤◌, All, length, slice_index, vec_capacity};
+ghost use Rattle.std.specs.List.{range_with_len};
 ghost use Rattle.mk_net.specs.Bounds.{max_clique_cells};
 ghost use Rattle.mk_scope.specs.Scopes.{LiesIn, cells_in};
 ghost use Rattle.mk_scope.specs.Cells.{cell_in, cells_beside, cells_onto};
 ghost use Rattle.mk_passes.specs.Blank.{one_digits, one_exponent, filled};
 ghost use Rattle.mk_passes.specs.Parts.{AreBlankOrFull, AreHeld, HaveRoom, MakesPlusOfPairs};
+ghost use Rattle.mk_passes.specs.inner.Made.{AreBlank, AreMade, AreWritten, CanMultiply, CanPut, MakesProducts};
 ghost use Rattle.mk_scope.specs.Runs.{cells_at};
 
 use crate::blank::{fill, plus_of_each};
 use crate::columns::{Columns, Lists};
+use crate::made::{First, Maker, put_made};
 use crate::products::{plus_of_others, plus_of_products, products_of_cells};
+use mk_cell::Cell;
 use mk_scope::Places;
 use mk_semiring::Semiring;
 
@@ -89,160 +93,127 @@ fn products_at_each<R: Semiring>(
     ensures same_digits { length digits.new ≡ length digits.old }
     ensures same_exponents { length exponents.new ≡ length exponents.old }
 {
-    if left.digits.len() < onto.len() {
-        return others_at_each::<R>(left, onto, right, lists, digits, exponents);
-    }
-    match lists.offsets.len() {
-        1 => few_products::<R, 1>(left, onto, right, lists, digits, exponents),
-        2 => few_products::<R, 2>(left, onto, right, lists, digits, exponents),
-        4 => few_products::<R, 4>(left, onto, right, lists, digits, exponents),
-        8 => few_products::<R, 8>(left, onto, right, lists, digits, exponents),
-        16 => few_products::<R, 16>(left, onto, right, lists, digits, exponents),
-        _ => any_products::<R>(left, onto, right, lists, digits, exponents),
+    let products = Products {
+        left,
+        onto,
+        right,
+        lists,
+    };
+    products_by_count::<R>(products, digits, exponents);
+}
+
+/// What makes the plus of the products for a cell.
+#[derive(Clone, Copy)]
+struct Products<'a> {
+    left: Columns<'a>,
+    onto: &'a [u16],
+    right: Columns<'a>,
+    lists: Lists<'a>,
+}
+
+impl<'a> Maker for Products<'a> {
+    ghost ready = { λ s. Unit {0} };
+
+    ghost can = { λ s. CanMultiply s.left.digits.now s.left.exponents.now s.onto.now s.right.digits.now s.right.exponents.now s.lists.bases.now s.lists.offsets.now };
+
+    ghost makes = { λ plus s. MakesProducts plus s.left.digits.now s.left.exponents.now s.onto.now s.right.digits.now s.right.exponents.now s.lists.bases.now s.lists.offsets.now };
+
+    #[inline(always)]
+    fn make<R: Semiring>(self, cell: usize) -> Cell {
+        let base = self.lists.bases[cell] as usize;
+        plus_of_products::<R>(self.left, self.onto, self.right, base, self.lists.offsets)
     }
 }
 
-/// The same where nothing is written of the cells that are multiplied.
-fn others_at_each<R: Semiring>(
-    left: Columns,
-    onto: &[u16],
-    right: Columns,
-    lists: Lists,
-    digits: &mut [u64],
-    exponents: &mut [u32],
-)
-    requires blank { length left.digits.now < length onto.now }
-    requires few { length lists.offsets.now ≤ max_clique_cells }
-    requires within { (b : ℕ) → b < length lists.bases.now
-        → All (λ c. slice_index lists.bases.now b + c < length onto.now) lists.offsets.now }
-    requires onto { All (λ d. d < length right.digits.now) onto.now }
-    requires whole { AreBlankOrFull (length onto.now) left.digits.now left.exponents.now }
-    requires room { (k : ℕ) × HaveRoom k (filled one_digits (length onto.now) left.digits.now) (filled one_exponent (length onto.now) left.exponents.now) (2 * length lists.offsets.now) }
-    requires other_room { (k : ℕ) × HaveRoom k right.digits.now right.exponents.now 1 }
-    requires digits { length digits.old ≡ length lists.bases.now }
-    requires exponents { length exponents.old ≡ length lists.bases.now }
-    ensures made { (b : ℕ) → b < length lists.entry.bases.now
-        → MakesPlusOfPairs R.plus_of (filled one_digits (length onto.now) left.entry.digits.now) (filled one_exponent (length onto.now) left.entry.exponents.now) right.entry.digits.now right.entry.exponents.now
-        (slice_index onto.now) (cells_at (slice_index lists.entry.bases.now b) lists.entry.offsets.now) (2 * length lists.entry.offsets.now + 1)
-        (slice_index digits.new b) (slice_index exponents.new b) }
-    ensures same_digits { length digits.new ≡ length digits.old }
-    ensures same_exponents { length exponents.new ≡ length exponents.old }
-{
-    match lists.offsets.len() {
-        1 => few_others::<R, 1>(left, onto, right, lists, digits, exponents),
-        2 => few_others::<R, 2>(left, onto, right, lists, digits, exponents),
-        4 => few_others::<R, 4>(left, onto, right, lists, digits, exponents),
-        8 => few_others::<R, 8>(left, onto, right, lists, digits, exponents),
-        16 => few_others::<R, 16>(left, onto, right, lists, digits, exponents),
-        _ => any_products::<R>(left, onto, right, lists, digits, exponents),
+/// The same of `N` cells where each cell is written. The compiler knows their number, and writes the passes over them without a
+/// loop.
+#[derive(Clone, Copy)]
+struct FewProducts<'a, const N: usize>(Products<'a>);
+
+impl<'a, const N: usize> Maker for FewProducts<'a, N> {
+    ghost ready = { λ s. AreWritten N s.0.left.digits.now s.0.onto.now s.0.lists.offsets.now };
+
+    ghost can = { λ s. CanMultiply s.0.left.digits.now s.0.left.exponents.now s.0.onto.now s.0.right.digits.now s.0.right.exponents.now s.0.lists.bases.now s.0.lists.offsets.now };
+
+    ghost makes = { λ plus s. MakesProducts plus s.0.left.digits.now s.0.left.exponents.now s.0.onto.now s.0.right.digits.now s.0.right.exponents.now s.0.lists.bases.now s.0.lists.offsets.now };
+
+    #[inline(always)]
+    fn make<R: Semiring>(self, cell: usize) -> Cell {
+        let Products {
+            left,
+            onto,
+            right,
+            lists,
+        } = self.0;
+        let base = lists.bases[cell] as usize;
+        products_of_cells::<R, N>(left, onto, right, base, &lists.offsets[..N])
     }
 }
 
-/// The same for any number of offsets.
-fn any_products<R: Semiring>(
-    left: Columns,
-    onto: &[u16],
-    right: Columns,
-    lists: Lists,
-    digits: &mut [u64],
-    exponents: &mut [u32],
-)
-    requires few { length lists.offsets.now ≤ max_clique_cells }
-    requires within { (b : ℕ) → b < length lists.bases.now
-        → All (λ c. slice_index lists.bases.now b + c < length onto.now) lists.offsets.now }
-    requires onto { All (λ d. d < length right.digits.now) onto.now }
-    requires whole { AreBlankOrFull (length onto.now) left.digits.now left.exponents.now }
-    requires room { (k : ℕ) × HaveRoom k (filled one_digits (length onto.now) left.digits.now) (filled one_exponent (length onto.now) left.exponents.now) (2 * length lists.offsets.now) }
-    requires other_room { (k : ℕ) × HaveRoom k right.digits.now right.exponents.now 1 }
-    requires digits { length digits.old ≡ length lists.bases.now }
-    requires exponents { length exponents.old ≡ length lists.bases.now }
-    ensures made { (b : ℕ) → b < length lists.entry.bases.now
-        → MakesPlusOfPairs R.plus_of (filled one_digits (length onto.now) left.entry.digits.now) (filled one_exponent (length onto.now) left.entry.exponents.now) right.entry.digits.now right.entry.exponents.now
-        (slice_index onto.now) (cells_at (slice_index lists.entry.bases.now b) lists.entry.offsets.now) (2 * length lists.entry.offsets.now + 1)
-        (slice_index digits.new b) (slice_index exponents.new b) }
-    ensures same_digits { length digits.new ≡ length digits.old }
-    ensures same_exponents { length exponents.new ≡ length exponents.old }
-{
-    for place in 0..lists.bases.len() {
-        let base = lists.bases[place] as usize;
-        let cell = plus_of_products::<R>(left, onto, right, base, lists.offsets);
-        digits[place] = cell.digits;
-        exponents[place] = cell.exponent;
-    }
-}
+/// The same of `N` cells where none is written.
+#[derive(Clone, Copy)]
+struct FewOthers<'a, const N: usize>(Products<'a>);
 
-/// The same for `N` offsets where each cell is written. The compiler knows their number, and writes the passes over them without
-/// a loop.
-fn few_products<R: Semiring, const N: usize>(
-    left: Columns,
-    onto: &[u16],
-    right: Columns,
-    lists: Lists,
-    digits: &mut [u64],
-    exponents: &mut [u32],
-)
-    requires count { length lists.offsets.now ≡ N }
-    requires small { N ≤ 64 }
-    requires full { length onto.now ≤ length left.digits.now }
-    requires within { (b : ℕ) → b < length lists.bases.now
-        → All (λ c. slice_index lists.bases.now b + c < length onto.now) lists.offsets.now }
-    requires onto { All (λ d. d < length right.digits.now) onto.now }
-    requires whole { AreBlankOrFull (length onto.now) left.digits.now left.exponents.now }
-    requires room { (k : ℕ) × HaveRoom k (filled one_digits (length onto.now) left.digits.now) (filled one_exponent (length onto.now) left.exponents.now) (2 * length lists.offsets.now) }
-    requires other_room { (k : ℕ) × HaveRoom k right.digits.now right.exponents.now 1 }
-    requires digits { length digits.old ≡ length lists.bases.now }
-    requires exponents { length exponents.old ≡ length lists.bases.now }
-    ensures made { (b : ℕ) → b < length lists.entry.bases.now
-        → MakesPlusOfPairs R.plus_of (filled one_digits (length onto.now) left.entry.digits.now) (filled one_exponent (length onto.now) left.entry.exponents.now) right.entry.digits.now right.entry.exponents.now
-        (slice_index onto.now) (cells_at (slice_index lists.entry.bases.now b) lists.entry.offsets.now) (2 * length lists.entry.offsets.now + 1)
-        (slice_index digits.new b) (slice_index exponents.new b) }
-    ensures same_digits { length digits.new ≡ length digits.old }
-    ensures same_exponents { length exponents.new ≡ length exponents.old }
-{
-    for place in 0..lists.bases.len() {
-        let base = lists.bases[place] as usize;
-        let cell = products_of_cells::<R, N>(left, onto, right, base, &lists.offsets[..N]);
-        digits[place] = cell.digits;
-        exponents[place] = cell.exponent;
-    }
-}
+impl<'a, const N: usize> Maker for FewOthers<'a, N> {
+    ghost ready = { λ s. AreBlank N s.0.left.digits.now s.0.onto.now s.0.lists.offsets.now };
 
-/// The same for `N` offsets where none is.
-fn few_others<R: Semiring, const N: usize>(
-    left: Columns,
-    onto: &[u16],
-    right: Columns,
-    lists: Lists,
-    digits: &mut [u64],
-    exponents: &mut [u32],
-)
-    requires count { length lists.offsets.now ≡ N }
-    requires small { N ≤ 64 }
-    requires blank { length left.digits.now < length onto.now }
-    requires within { (b : ℕ) → b < length lists.bases.now
-        → All (λ c. slice_index lists.bases.now b + c < length onto.now) lists.offsets.now }
-    requires onto { All (λ d. d < length right.digits.now) onto.now }
-    requires whole { AreBlankOrFull (length onto.now) left.digits.now left.exponents.now }
-    requires room { (k : ℕ) × HaveRoom k (filled one_digits (length onto.now) left.digits.now) (filled one_exponent (length onto.now) left.exponents.now) (2 * length lists.offsets.now) }
-    requires other_room { (k : ℕ) × HaveRoom k right.digits.now right.exponents.now 1 }
-    requires digits { length digits.old ≡ length lists.bases.now }
-    requires exponents { length exponents.old ≡ length lists.bases.now }
-    ensures made { (b : ℕ) → b < length lists.entry.bases.now
-        → MakesPlusOfPairs R.plus_of (filled one_digits (length onto.now) left.entry.digits.now) (filled one_exponent (length onto.now) left.entry.exponents.now) right.entry.digits.now right.entry.exponents.now
-        (slice_index onto.now) (cells_at (slice_index lists.entry.bases.now b) lists.entry.offsets.now) (2 * length lists.entry.offsets.now + 1)
-        (slice_index digits.new b) (slice_index exponents.new b) }
-    ensures same_digits { length digits.new ≡ length digits.old }
-    ensures same_exponents { length exponents.new ≡ length exponents.old }
-{
-    for place in 0..lists.bases.len() {
-        let cell = plus_of_others::<R, N>(
+    ghost can = { λ s. CanMultiply s.0.left.digits.now s.0.left.exponents.now s.0.onto.now s.0.right.digits.now s.0.right.exponents.now s.0.lists.bases.now s.0.lists.offsets.now };
+
+    ghost makes = { λ plus s. MakesProducts plus s.0.left.digits.now s.0.left.exponents.now s.0.onto.now s.0.right.digits.now s.0.right.exponents.now s.0.lists.bases.now s.0.lists.offsets.now };
+
+    #[inline(always)]
+    fn make<R: Semiring>(self, cell: usize) -> Cell {
+        let Products {
+            onto,
+            right,
+            lists,
+            ..
+        } = self.0;
+        let base = lists.bases[cell] as usize;
+        plus_of_others::<R, N>(
             onto,
             right.digits,
             right.exponents,
-            lists.bases[place] as usize,
+            base,
             &lists.offsets[..N],
-        );
-        digits[place] = cell.digits;
-        exponents[place] = cell.exponent;
+        )
+    }
+}
+
+/// The same by the number of offsets.
+fn products_by_count<R: Semiring>(of: Products, digits: &mut [u64], exponents: &mut [u32])
+    requires can { CanPut (CanMultiply of.left.digits.now of.left.exponents.now of.onto.now of.right.digits.now of.right.exponents.now of.lists.bases.now of.lists.offsets.now)
+        (range_with_len 0 (length of.lists.bases.now)) digits.old exponents.old }
+    ensures { AreMade (MakesProducts R.plus_of of.entry.left.digits.now of.entry.left.exponents.now of.entry.onto.now of.entry.right.digits.now of.entry.right.exponents.now of.entry.lists.bases.now of.entry.lists.offsets.now)
+        (range_with_len 0 (length of.entry.lists.bases.now)) (length (range_with_len 0 (length of.entry.lists.bases.now))) digits.old exponents.old digits.new exponents.new }
+{
+    match of.lists.offsets.len() {
+        1 => few_products::<R, 1>(of, digits, exponents),
+        2 => few_products::<R, 2>(of, digits, exponents),
+        4 => few_products::<R, 4>(of, digits, exponents),
+        8 => few_products::<R, 8>(of, digits, exponents),
+        16 => few_products::<R, 16>(of, digits, exponents),
+        _ => put_made::<R, Products, First>(of, First(of.lists.bases.len()), digits, exponents),
+    }
+}
+
+/// The same for `N` offsets.
+fn few_products<R: Semiring, const N: usize>(
+    of: Products,
+    digits: &mut [u64],
+    exponents: &mut [u32],
+)
+    requires count { length of.lists.offsets.now ≡ N }
+    requires small { N ≤ 64 }
+    requires can { CanPut (CanMultiply of.left.digits.now of.left.exponents.now of.onto.now of.right.digits.now of.right.exponents.now of.lists.bases.now of.lists.offsets.now)
+        (range_with_len 0 (length of.lists.bases.now)) digits.old exponents.old }
+    ensures { AreMade (MakesProducts R.plus_of of.entry.left.digits.now of.entry.left.exponents.now of.entry.onto.now of.entry.right.digits.now of.entry.right.exponents.now of.entry.lists.bases.now of.entry.lists.offsets.now)
+        (range_with_len 0 (length of.entry.lists.bases.now)) (length (range_with_len 0 (length of.entry.lists.bases.now))) digits.old exponents.old digits.new exponents.new }
+{
+    let cells = First(of.lists.bases.len());
+    if of.left.digits.len() < of.onto.len() {
+        put_made::<R, FewOthers<N>, First>(FewOthers(of), cells, digits, exponents);
+    } else {
+        put_made::<R, FewProducts<N>, First>(FewProducts(of), cells, digits, exponents);
     }
 }

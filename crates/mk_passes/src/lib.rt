@@ -6,6 +6,7 @@ mod blank;
 mod blocks;
 mod columns;
 mod joined;
+mod made;
 mod picked;
 mod products;
 mod times;

@@ -1,9 +1,9 @@
 //! What a cell picks: a share in the rows of a variable, and the units of a trade.
 
-ghost use Rattle.std.specs.Prelude.{◌≡◌, ◌<◌, ◌≤◌, length, All, slice_index};
+ghost use Rattle.std.specs.Prelude.{◌≡◌, ◌<◌, ◌≤◌, nat_le, if◌then◌else◌, length, All, slice_index};
 ghost use Rattle.mk_net.specs.Network.{sizes};
 ghost use Rattle.mk_net.specs.Named.{variable_at};
-ghost use Rattle.mk_sums.specs.There.{row_there, share_there, support_there};
+ghost use Rattle.mk_sums.specs.There.{row_there, share_there};
 ghost use Rattle.mk_scope.specs.Scopes.{HasSized, cells_in};
 ghost use Rattle.mk_scope.specs.Cells.{values_at};
 ghost use Rattle.mk_passes.specs.Parts.{AreUnitCells};
@@ -67,17 +67,10 @@ pub(crate) fn share_of(net: &Network, variable: u32, scope: &Scope, cell: usize)
     net.entry(variable, row, scope.value(cell, variable))
 }
 
-/// One where that share is not nothing.
-pub(crate) fn support_of(net: &Network, variable: u32, scope: &Scope, cell: usize) -> u64
-    requires variable { variable < length net.now }
-    requires family { HasSized net.now scope.now variable }
-    requires parents { All (HasSized net.now scope.now) (variable_at net.now variable).parents }
-    requires cell { cell < cells_in scope.now }
-    ensures { result ≡ support_there net.now variable (values_at scope.now cell) }
+/// One where a share is not nothing.
+#[inline]
+pub(crate) fn support_of(share: u32) -> u64
+    ensures { result ≡ (if nat_le 1 share then 1 else 0) }
 {
-    if share_of(net, variable, scope, cell) >= 1 {
-        1
-    } else {
-        0
-    }
+    if share >= 1 { 1 } else { 0 }
 }

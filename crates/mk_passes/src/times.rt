@@ -78,8 +78,13 @@ pub fn times_supports(
         (λ c. c < cells_in scope.now) digits.old exponents.old digits.new exponents.new }
 {
     for cell in 0..digits.len() {
-        let support = support_of(net, variable, scope, cell);
-        times_at(digits, exponents, cell, Cell::of_whole(support, 0));
+        let share = share_of(net, variable, scope, cell);
+        times_at(
+            digits,
+            exponents,
+            cell,
+            Cell::of_whole(support_of(share), 0),
+        );
     }
 }
 

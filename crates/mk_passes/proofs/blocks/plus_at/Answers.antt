@@ -1,27 +1,10 @@
-use Rattle.std.proofs.Common.{◌≡◌, ℕ, ◌+◌, ◌-◌, ◌*◌, ◌≤◌, List, length, take, arith, ap, subst, sym, ◌∙◌}
-use Rattle.std.proofs.lemmas.List.{take_all}
-use Rattle.mk_states.specs.States.{plus_over}
-use Rattle.mk_cell.specs.Cell.{StandsAt}
+use Rattle.std.proofs.Common.{◌+◌, ◌-◌, ◌*◌, length, arith}
 use Rattle.mk_cell.specs.inner.Laws.{stands_with_more}
-use Rattle.mk_passes.specs.Parts.{StandListed}
 use Rattle.mk_scope.specs.Runs.{runs_of}
 use Rattle.mk_passes.proofs.Blocked.{cells_of_room}
-use Rattle.mk_scope.proofs.Runs.{length-runs, runs_single}
-use Rattle.mk_passes.proofs.Summed.{steps_of_list}
+use Rattle.mk_scope.proofs.Runs.{length-runs}
+use Rattle.mk_passes.proofs.Summed.{few_cells, steps_of_list}
 use Rattle.mk_passes.proofs.blocks.plus_at.Goals as goal
-
--- so many single cells
-few_cells : (plus : ℕ → ℕ → ℕ) (run count base : ℕ) (xs d e : List ℕ) (q x : ℕ) → run ≡ 1 → length xs ≡ count → 1 ≤ count
-    → ((k : ℕ) (f : ℕ → ℕ) (n : ℕ) → StandListed k d e f n base (take count xs) → StandsAt k q x (plus_over plus 0 (λ c. f (base + c)) (take count xs)) (n + length (take count xs)))
-    → (k : ℕ) (f : ℕ → ℕ) (n : ℕ) → StandListed k d e f n base (runs_of run xs) → StandsAt k q x (plus_over plus 0 (λ c. f (base + c)) (runs_of run xs)) (n + (2 * length (runs_of run xs) - 1))
-few_cells plus run count base xs d e q x one long some h k f n a =
-    let all : take count xs ≡ xs = take_all count xs (omega (arith, long)) in
-    let runs : runs_of run xs ≡ xs = ap (λ r. runs_of r xs) one ∙ runs_single xs in
-    let made : StandsAt k q x (plus_over plus 0 (λ c. f (base + c)) xs) (n + length xs) =
-    subst (λ (ys : List ℕ). StandListed k d e f n base ys → StandsAt k q x (plus_over plus 0 (λ c. f (base + c)) ys) (n + length ys)) all (h k f n)
-    (subst (λ (ys : List ℕ). StandListed k d e f n base ys) runs a) in
-    subst (λ (ys : List ℕ). StandsAt k q x (plus_over plus 0 (λ c. f (base + c)) ys) (n + (2 * length ys - 1))) (sym runs)
-    (stands_with_more k q x (plus_over plus 0 (λ c. f (base + c)) xs) (n + length xs) (n + (2 * length xs - 1)) (omega (arith, long, some)) made)
 
 pub plus_of_cells-requires-clause-cells : goal.plus_of_cells-requires-clause-cells
 plus_of_cells-requires-clause-cells g c = cells_of_room c.requires.room.0 _ _ _ c.requires.room.1

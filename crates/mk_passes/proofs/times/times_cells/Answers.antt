@@ -1,29 +1,20 @@
-use Rattle.std.proofs.Common.{◌≡◌, ◌<◌, length, slice_index, arith, sym, subst, All}
+use Rattle.std.proofs.Common.{◌≡◌, ◌<◌, length, slice_index, arith}
 use Rattle.mk_cell.specs.Cell.{IsCell}
 use Rattle.mk_scope.specs.Scopes.{cells_in}
 use Rattle.mk_scope.specs.Cells.{cell_in}
 use Rattle.mk_passes.specs.Parts.{IsTimesCell}
-use Rattle.mk_scope.specs.Runs.{cells_at, runs_of}
 use Rattle.mk_passes.proofs.Changes.{left_cell, room_cell, changed_where}
 use Rattle.mk_scope.proofs.Kept.{cell_within}
-use Rattle.mk_passes.proofs.Placed.{IsBefore, placed_each, placed_rising, message_more}
+use Rattle.mk_passes.proofs.Placed.{IsBefore, placed_below, placed_each, placed_rising, message_more}
 use Rattle.mk_passes.proofs.times.times_cells.Goals as goal
 
 pub times_far-requires-clause-within : goal.times_far-requires-clause-within
 times_far-requires-clause-within c =
-    let d = c.loop-place.place in let part = c.args.places.now.part in let whole = c.args.places.now.whole in
-    let l : d < cells_in part = omega (arith, c.lists-run.ensures.one_each, c.loop-place-test.true) in
-    let long : length c.loop-place.digits ≡ cells_in whole = omega (arith, c.loop-place.invariant.as_many_digits, c.requires.full.as_many_digits) in
-    subst (λ n. All (λ k. k < n) (cells_at (slice_index c.lists-run.result.0.now d) (runs_of c.lists-run.result.2 c.lists-run.result.1.now))) (sym long)
-    (placed_each part whole c.lists-run.result.0.now c.lists-run.result.1.now c.lists-run.result.2 c.lists-run.ensures d l (λ k. k < cells_in whole) (λ k m e. m))
+    let at = c.lists-run in placed_below _ _ at.result.0.now at.result.1.now at.result.2 at.ensures c.loop-place.place (omega (arith, at.ensures.one_each, c.loop-place-test.true)) (length c.loop-place.digits) (omega (arith, c.loop-place.invariant.as_many_digits, c.requires.full.as_many_digits))
 
 pub times_far-requires-clause-within_exponents : goal.times_far-requires-clause-within_exponents
 times_far-requires-clause-within_exponents c =
-    let d = c.loop-place.place in let part = c.args.places.now.part in let whole = c.args.places.now.whole in
-    let l : d < cells_in part = omega (arith, c.lists-run.ensures.one_each, c.loop-place-test.true) in
-    let long : length c.loop-place.exponents ≡ cells_in whole = omega (arith, c.loop-place.invariant.as_many_exponents, c.requires.full.as_many_exponents) in
-    subst (λ n. All (λ k. k < n) (cells_at (slice_index c.lists-run.result.0.now d) (runs_of c.lists-run.result.2 c.lists-run.result.1.now))) (sym long)
-    (placed_each part whole c.lists-run.result.0.now c.lists-run.result.1.now c.lists-run.result.2 c.lists-run.ensures d l (λ k. k < cells_in whole) (λ k m e. m))
+    let at = c.lists-run in placed_below _ _ at.result.0.now at.result.1.now at.result.2 at.ensures c.loop-place.place (omega (arith, at.ensures.one_each, c.loop-place-test.true)) (length c.loop-place.exponents) (omega (arith, c.loop-place.invariant.as_many_exponents, c.requires.full.as_many_exponents))
 
 pub times_far-requires-clause-rising : goal.times_far-requires-clause-rising
 times_far-requires-clause-rising c =

@@ -1,8 +1,8 @@
-use Rattle.std.proofs.Common.{◌≡◌, ℕ, ◌+◌, ◌-◌, ◌<◌, ◌≤◌, ◌⊎◌, inl, inr, List, length, slice_index, arith, subst}
+use Rattle.std.proofs.Common.{◌≡◌, ℕ, ◌+◌, ◌-◌, ◌<◌, ◌≤◌, ◌⊎◌, inl, inr, List, All, length, slice_index, arith, subst}
 use Rattle.std.proofs.lemmas.Bool.{cases_eq}
 use Rattle.mk_cell.specs.Cell.{IsCell}
 use Rattle.mk_passes.specs.Parts.{IsTimesCell}
-use Rattle.mk_scope.specs.Runs.{IsBetween, IsOfRuns}
+use Rattle.mk_scope.specs.Runs.{IsBetween, IsOfRuns, cells_at, runs_of}
 use Rattle.mk_passes.proofs.Changes.{cell_left, changed_none, changed_then}
 use Rattle.mk_scope.proofs.Runs.{all_of_runs, runs_apart}
 use Rattle.mk_passes.proofs.times.times_runs.Goals as goal
@@ -19,29 +19,27 @@ run_more base run offsets n c p = at (cases_eq p.0 n)
 last_of : (first run : ℕ) → 1 ≤ run → IsBetween first (first + run) (first + (run - 1))
 last_of first run l = record { from = omega arith; below = omega (arith, l) }
 
+-- a run ends within
+run_ends : (base run count : ℕ) (offsets : List ℕ) → 1 ≤ run → All (λ k. k < count) (cells_at base (runs_of run offsets)) → (i : ℕ) → i < length offsets → base + slice_index offsets i + run ≤ count
+run_ends base run count offsets some within i l =
+    let first = base + slice_index offsets i in
+    let w : first + (run - 1) < count = all_of_runs (λ k. k < count) base run offsets within i l (first + (run - 1)) (last_of first run some) in
+    omega (arith, w, some)
+
 pub overflow_add-first : goal.overflow_add-first
 overflow_add-first c =
-    let i = c.loop-place.place in let first = c.args.base + slice_index c.args.offsets.now i in
-    let l : i < length c.args.offsets.now = omega (arith, c.loop-place-test.true) in
-    let w = all_of_runs (λ k. k < length c.args.digits.now) c.args.base c.args.run c.args.offsets.now c.requires.within i l (first + (c.args.run - 1)) (last_of first c.args.run c.requires.some) in
-    omega (arith, w)
+    let w = run_ends c.args.base c.args.run (length c.args.digits.now) c.args.offsets.now c.requires.some c.requires.within c.loop-place.place (omega (arith, c.loop-place-test.true)) in omega (arith, w, c.requires.some)
 
 pub loop-place-init : goal.loop-place-init
 loop-place-init c = changed_none _ (IsOfRuns c.args.base c.args.run c.args.offsets.now 0) c.args.digits.now c.args.exponents.now (λ k p. omega (arith, p.1))
 
 pub times_run-requires-clause-within : goal.times_run-requires-clause-within
 times_run-requires-clause-within c =
-    let i = c.loop-place.place in let first = c.args.base + slice_index c.args.offsets.now i in
-    let l : i < length c.args.offsets.now = omega (arith, c.loop-place-test.true) in
-    let w = all_of_runs (λ k. k < length c.args.digits.now) c.args.base c.args.run c.args.offsets.now c.requires.within i l (first + (c.args.run - 1)) (last_of first c.args.run c.requires.some) in
-    omega (arith, w, c.requires.some, c.loop-place.invariant.as_many_digits)
+    let w = run_ends c.args.base c.args.run (length c.args.digits.now) c.args.offsets.now c.requires.some c.requires.within c.loop-place.place (omega (arith, c.loop-place-test.true)) in omega (arith, w, c.loop-place.invariant.as_many_digits)
 
 pub times_run-requires-clause-within_exponents : goal.times_run-requires-clause-within_exponents
 times_run-requires-clause-within_exponents c =
-    let i = c.loop-place.place in let first = c.args.base + slice_index c.args.offsets.now i in
-    let l : i < length c.args.offsets.now = omega (arith, c.loop-place-test.true) in
-    let w = all_of_runs (λ k. k < length c.args.exponents.now) c.args.base c.args.run c.args.offsets.now c.requires.within_exponents i l (first + (c.args.run - 1)) (last_of first c.args.run c.requires.some) in
-    omega (arith, w, c.requires.some, c.loop-place.invariant.as_many_exponents)
+    let w = run_ends c.args.base c.args.run (length c.args.exponents.now) c.args.offsets.now c.requires.some c.requires.within_exponents c.loop-place.place (omega (arith, c.loop-place-test.true)) in omega (arith, w, c.loop-place.invariant.as_many_exponents)
 
 pub times_run-requires-clause-cells : goal.times_run-requires-clause-cells
 times_run-requires-clause-cells c = λ k b.

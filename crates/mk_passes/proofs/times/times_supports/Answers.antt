@@ -22,7 +22,7 @@ loop-cell-preserved c =
     let l : n < length c.args.digits.now = omega (arith, c.loop-cell-test.true) in
     written_below (λ k d e x y. IsTimes d e 0 (share k) 0 x y) c.args.digits.now c.args.exponents.now c.loop-cell.digits c.loop-cell.exponents c.times_at.new.digits c.times_at.new.exponents n
     l (omega (arith, l, c.requires.full.as_many_digits, c.requires.full.as_many_exponents)) c.loop-cell.invariant c.times_at.ensures.digits c.times_at.ensures.exponents
-    (c.times_at.ensures.times 0 (share n) 0 (subst (λ w. StandsAt 0 c.of_whole.result.digits c.of_whole.result.exponent w 0) c.support_of-support.ensures c.of_whole.ensures))
+    (c.times_at.ensures.times 0 (share n) 0 (subst (λ w. StandsAt 0 c.of_whole.result.digits c.of_whole.result.exponent w 0) (rw c.share_of-share.ensures at c.support_of.ensures) c.of_whole.ensures))
 
 pub returns : goal.returns
 returns c =

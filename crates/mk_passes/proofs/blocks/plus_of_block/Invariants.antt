@@ -4,7 +4,7 @@ use Rattle.mk_states.specs.States.{plus_over}
 use Rattle.mk_cell.specs.Cell.{StandsAt}
 use Rattle.mk_passes.specs.Parts.{StandListed}
 use Rattle.mk_scope.specs.Runs.{runs_of}
-use Rattle.mk_passes.proofs.blocks.plus_of_runs.Given as goal
+use Rattle.mk_passes.proofs.blocks.plus_of_block.Given as goal
 
 abbrev pub invariant-loop-place : goal.invariant-loop-place
 invariant-loop-place g l = record {
