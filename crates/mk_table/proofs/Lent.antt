@@ -1,16 +1,15 @@
 -- The range of a table that is written, lent to a call that writes it over.
 use Rattle.std.proofs.Common.{◌≡◌, ℕ, ◌+◌, ◌-◌, ◌<◌, ◌≤◌, List, length, take, drop, set, sym, ap, subst, ◌∙◌, arith}
 use borrow.Rule.Slice.PartMut.{put_mid}
-use Rattle.std.specs.Prelude.{vec_capacity}
 use Rattle.std.specs.Vec.{with_items}
 use Rattle.mk_scope.specs.Scopes.{ScopeOf, cells_in}
 use Rattle.mk_table.specs.Tables.{TableOf}
 use Rattle.mk_table.specs.Lists.{table_in}
 use Rattle.mk_table.specs.declared.store.Store.{Store}
-use Rattle.mk_passes.specs.Parts.{IsFull, IsChanged}
-use Rattle.mk_table.specs.inner.Store.{IsStore, IsStoreOf, IsWrittenFrom, store_tables, tables_of, scope_in, with_cells}
+use Rattle.mk_passes.specs.Parts.{IsFull}
+use Rattle.mk_table.specs.inner.Store.{HasCells, IsSame, IsStoreOf, IsWrittenFrom, digits_in, exponents_in, store_tables, tables_of, scope_in, with_cells}
 use Rattle.mk_table.proofs.Stored.{cells_there, range_digits, range_exponents, range_full, tables_length}
-use Rattle.mk_table.proofs.Ranges.{passed_store, passed_tables, after_digits, after_exponents, after_tables, changed_same}
+use Rattle.mk_table.proofs.Ranges.{passed_store, passed_tables, after_digits, after_exponents, after_tables}
 
 -- the range lies within both arrays
 pub record IsRange (s : Store) (first count : ℕ) : Type 0 where
@@ -30,15 +29,18 @@ pub record IsLent (scope : ScopeOf) (table : TableOf) (ds es : List ℕ) : Type 
   pub digits : ds ≡ table.digits
   pub exponents : es ≡ table.exponents
 
--- the arrays with the range written over, and the tables that they make
-pub record HasPassed (scopes : List ScopeOf) (s : Store) (old : List TableOf) (k : ℕ) (nd ne d e : List ℕ) : Type 0 where
-  pub store : IsStore scopes s.heads.items d e (vec_capacity s.heads) (vec_capacity s.digits) (vec_capacity s.exponents)
-  pub tables : tables_of scopes s.heads.items d e ≡ set old k (with_cells (table_in old k) (table_in (tables_of scopes s.heads.items d e) k).digits
-      (table_in (tables_of scopes s.heads.items d e) k).exponents)
-  pub digits : nd ≡ (table_in (tables_of scopes s.heads.items d e) k).digits
-  pub exponents : ne ≡ (table_in (tables_of scopes s.heads.items d e) k).exponents
+-- the store with the range written over in both arrays, and the table that this makes
+pub record HasPassed (scopes : List ScopeOf) (b n : Store) (k : ℕ) (nd ne : List ℕ) : Type 0 where
+  pub cells : HasCells scopes b n k (digits_in scopes n k) (exponents_in scopes n k)
+  pub digits : nd ≡ digits_in scopes n k
+  pub exponents : ne ≡ exponents_in scopes n k
   pub long : length nd ≡ cells_in (scope_in scopes k)
   pub long_too : length ne ≡ cells_in (scope_in scopes k)
+
+-- a store with a range of both arrays written over
+abbrev pub written_over : Store → ℕ → ℕ → List ℕ → List ℕ → List ℕ → List ℕ → Store
+written_over s first count xs ys nd ne =
+    record s { digits = with_items s.digits (put_mid first (first + count - first) xs nd); exponents = with_items s.exponents (put_mid first (first + count - first) ys ne) }
 
 module _ (scopes : List ScopeOf) (b s : Store) (is : IsStoreOf scopes s) (all : length s.heads.items ≡ length scopes)
     (same : store_tables scopes s ≡ store_tables scopes b) (k : ℕ) (within : k < length scopes)
@@ -58,12 +60,16 @@ module _ (scopes : List ScopeOf) (b s : Store) (is : IsStoreOf scopes s) (all : 
 
   passed_range : (nd ne : List ℕ) → length nd ≡ length (take (first + count - first) (drop first xs))
       → length ne ≡ length (take (first + count - first) (drop first ys))
-      → HasPassed scopes s (store_tables scopes b) k nd ne (with_items s.digits (put_mid first (first + count - first) xs nd)).items
-      (with_items s.exponents (put_mid first (first + count - first) ys ne)).items
+      → HasPassed scopes b (written_over s first count xs ys nd ne) k nd ne
   passed_range nd ne nd_long ne_long = record {
-    store = passed_store scopes s.heads.items s.digits s.exponents _ _ _ is all k within first place count counted xs ys xs_are ys_are nd ne long long_too
-        (omega (arith, s.digits.ok.0)) (omega (arith, s.exponents.ok.0));
-    tables = after_tables (store_tables scopes b) _ _ k there same nd ne made;
+    cells = record {
+      opened = record {
+        store = passed_store scopes s.heads.items s.digits s.exponents _ _ _ is all k within first place count counted xs ys xs_are ys_are nd ne long long_too
+            (omega (arith, s.digits.ok.0)) (omega (arith, s.exponents.ok.0));
+        heads = all;
+      };
+      tables = after_tables (store_tables scopes b) _ _ k there same nd ne made;
+    };
     digits = sym (after_digits (store_tables scopes b) _ _ k there same nd ne made);
     exponents = sym (after_exponents (store_tables scopes b) _ _ k there same nd ne made);
     long = long;
@@ -90,9 +96,7 @@ module _ (scopes : List ScopeOf) (b s : Store) (is : IsStoreOf scopes s) (all : 
 
 -- a store has written a table's range, and lends it
 pub record Lends (scopes : List ScopeOf) (b s : Store) (k first count : ℕ) (xs ys : List ℕ) : Type 0 where
-  pub store : IsStoreOf scopes s
-  pub heads : length s.heads.items ≡ length scopes
-  pub tables : store_tables scopes s ≡ store_tables scopes b
+  pub same : IsSame scopes b s
   pub within : k < length scopes
   pub place : IsWrittenFrom s.heads.items k first
   pub counted : count ≡ cells_in (scope_in scopes k)
@@ -103,18 +107,24 @@ pub is_lent : {scopes : List ScopeOf} {b s : Store} {k first count : ℕ} {xs ys
     → IsLent (scope_in scopes k) (table_in (store_tables scopes b) k) (take (first + count - first) (drop first xs))
     (take (first + count - first) (drop first ys))
 is_lent {scopes} {b} {s} {k} {first} {count} {xs} {ys} l =
-    lent_range scopes b s l.store l.heads l.tables k l.within first l.place count l.counted xs ys l.digits l.exponents
+    lent_range scopes b s l.same.opened.store l.same.opened.heads l.same.tables k l.within first l.place count l.counted xs ys l.digits l.exponents
 
 pub has_passed : {scopes : List ScopeOf} {b s : Store} {k first count : ℕ} {xs ys : List ℕ} → Lends scopes b s k first count xs ys
     → (nd ne : List ℕ) → length nd ≡ length (take (first + count - first) (drop first xs)) → length ne ≡ length (take (first + count - first) (drop first ys))
-    → HasPassed scopes s (store_tables scopes b) k nd ne (with_items s.digits (put_mid first (first + count - first) xs nd)).items
-    (with_items s.exponents (put_mid first (first + count - first) ys ne)).items
+    → HasPassed scopes b (written_over s first count xs ys nd ne) k nd ne
 has_passed {scopes} {b} {s} {k} {first} {count} {xs} {ys} l =
-    passed_range scopes b s l.store l.heads l.tables k l.within first l.place count l.counted xs ys l.digits l.exponents
+    passed_range scopes b s l.same.opened.store l.same.opened.heads l.same.tables k l.within first l.place count l.counted xs ys l.digits l.exponents
 
--- what a call changed of the cells that it was lent, it changed of the table
-pub changed_passed : (R : ScopeOf → ℕ → ℕ → ℕ → ℕ → ℕ → Type 0) (W : ScopeOf → ℕ → Type 0) (scope given : ScopeOf) → given ≡ scope
+-- what the table's cells allow, those that are lent do
+pub fit_lent : (P : ScopeOf → List ℕ → List ℕ → Type 0) (scope given : ScopeOf) → given ≡ scope → (table : TableOf) (ds es : List ℕ) → IsLent scope table ds es
+    → P scope table.digits table.exponents → P given ds es
+fit_lent P scope given same table ds es lent h =
+    subst (λ (x : ScopeOf). P x ds es) (sym same) (subst (λ (xs : List ℕ). P scope xs es) (sym lent.digits) (subst (λ (xs : List ℕ). P scope table.digits xs) (sym lent.exponents) h))
+
+-- what a call made of the cells that it was lent, it made of the table
+pub made_passed : (P : ScopeOf → List ℕ → List ℕ → List ℕ → List ℕ → Type 0) (scope given : ScopeOf) → given ≡ scope
     → (table : TableOf) (ds es nd ne d e : List ℕ) → IsLent scope table ds es
-    → nd ≡ d → ne ≡ e → IsChanged (R given) (W given) ds es nd ne → IsChanged (R scope) (W scope) table.digits table.exponents d e
-changed_passed R W scope given same table ds es nd ne d e lent i j h =
-    changed_same (R scope) (W scope) _ _ _ _ _ _ _ _ lent.digits lent.exponents i j (subst (λ (x : ScopeOf). IsChanged (R x) (W x) ds es nd ne) same h)
+    → nd ≡ d → ne ≡ e → P given ds es nd ne → P scope table.digits table.exponents d e
+made_passed P scope given same table ds es nd ne d e lent i j h =
+    subst (λ (xs : List ℕ). P scope xs table.exponents d e) lent.digits (subst (λ (xs : List ℕ). P scope ds xs d e) lent.exponents
+    (subst (λ (xs : List ℕ). P scope ds es xs e) i (subst (λ (xs : List ℕ). P scope ds es nd xs) j (subst (λ (x : ScopeOf). P x ds es nd ne) same h))))

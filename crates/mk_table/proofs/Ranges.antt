@@ -1,7 +1,7 @@
 -- Cells of a table that are written: over what is there, or at the end of the arrays.
 use Rattle.std.proofs.Common.{◌≡◌, ℕ, ◌+◌, ◌-◌, ◌<◌, ◌≤◌, inl, inr, List, ◌++◌, length, replicate, take, drop, set, refl, sym, ap, subst, ◌∙◌, arith}
 use borrow.Rule.Slice.PartMut.{put_mid}
-use Rattle.std.specs.Prelude.{Vec, Option, vec_len}
+use Rattle.std.specs.Prelude.{Vec, Option, vec_capacity, vec_len}
 use Rattle.std.specs.Vec.{with_items}
 use Rattle.std.proofs.lemmas.List.{with_items_is, length-append, length-take-le, length-drop, get_or-set_same, set-get_or}
 use Rattle.mk_scope.specs.Scopes.{ScopeOf, cells_in}
@@ -10,11 +10,12 @@ use Rattle.mk_table.specs.Lists.{no_table, table_in}
 use Rattle.mk_table.specs.declared.store.Place.{Place}
 use Rattle.mk_table.specs.declared.store.Place.TheVariants.{Nowhere, Blank, Written}
 use Rattle.mk_table.specs.declared.store.Head.{Head}
+use Rattle.mk_table.specs.declared.store.Store.{Store}
 use Rattle.mk_passes.specs.Blank.{one_digits, one_exponent, filled}
 use Rattle.mk_passes.specs.Parts.{IsChanged, HaveRoom}
 use Rattle.mk_table.specs.inner.Touched.{HasTouched}
-use Rattle.mk_table.specs.inner.Store.{IsStore, StandsFrom, missing, tables_of, table_of, cells_from, head_in, scope_in, no_head, with_cells}
-use Rattle.mk_table.proofs.Stored.{LeavesOthers, mid_length, mid_leaves, mid_own, end_leaves, end_own, stands_once, table_at, changed_tables, changed_store}
+use Rattle.mk_table.specs.inner.Store.{IsStore, IsOpen, IsNowhere, StandsFrom, missing, tables_of, table_of, cells_from, head_in, scope_in, no_head, with_cells}
+use Rattle.mk_table.proofs.Stored.{LeavesOthers, has_missing, mid_length, mid_leaves, mid_own, end_leaves, end_own, stands_once, table_at, changed_tables, changed_store}
 
 -- a table that another has become, but for its cells
 same_but : (scopes : List ScopeOf) (heads : List Head) (d e : List ℕ) (k : ℕ) → k < length scopes → (h : Head) → h.shift ≡ (head_in heads k).shift → h.touched ≡ (head_in heads k).touched
@@ -81,6 +82,13 @@ module _ {Y Z : Type 0} (scopes : List ScopeOf) (heads : List Head) (v : Vec ℕ
       ∙ ap (set (tables_of scopes heads v.items w.items) k)
       (same_but scopes heads v.items w.items k within h shift touched D E nd ne
       (written_range h.place first one_digits C D place ∙ mid_own first C v.items nd fits nd_long) (written_range h.place first one_exponent C E place ∙ mid_own first C w.items ne fits_too ne_long))
+
+-- at the end there is room for the cells of a table that stands nowhere
+pub room_at_end : (scopes : List ScopeOf) (s : Store) → IsOpen scopes s → (k : ℕ) → k < length scopes → IsNowhere s.heads.items k
+    → (length s.digits.items + cells_in (scope_in scopes k) ≤ vec_capacity s.digits) × (length s.digits.items + cells_in (scope_in scopes k) ≤ vec_capacity s.exponents)
+room_at_end scopes s opens k within nowhere =
+    let some = has_missing scopes s.heads.items k opens.heads within in let all = ap (λ p. missing p (cells_in (scope_in scopes k))) nowhere in
+    (omega (arith, some, all, opens.store.digits_fit), omega (arith, some, all, opens.store.exponents_fit))
 
 -- at the end
 module _ (scopes : List ScopeOf) (heads : List Head) (d e : List ℕ) (hr dr er : ℕ) (is : IsStore scopes heads d e hr dr er) (all : length heads ≡ length scopes) (k : ℕ) (within : k < length scopes)

@@ -1,6 +1,6 @@
 -- A table of a list as a store keeps it, and what becomes of it.
 use Rattle.std.proofs.Common.{◌≡◌, ℕ, ◌<◌, ◌≤◌, ◌⊎◌, inl, inr, List, length, set, refl, ap, sym, subst, ◌∙◌, arith}
-use Rattle.std.specs.Prelude.{Option}
+use Rattle.std.specs.Prelude.{Option, vec_capacity}
 use Rattle.std.proofs.lemmas.Bool.{cases_eq}
 use Rattle.std.proofs.lemmas.List.{length-set}
 use Rattle.mk_net.specs.declared.words.Pair.{Pair}
@@ -8,13 +8,14 @@ use Rattle.mk_scope.specs.Scopes.{ScopeOf, PlacesOf, LiesIn, cells_in}
 use Rattle.mk_table.specs.Tables.{TableOf, HasNumbers}
 use Rattle.mk_table.specs.Lists.{table_in}
 use Rattle.mk_table.specs.declared.store.Store.{Store}
+use Rattle.mk_table.specs.declared.store.Spare.{Spare}
 use Rattle.mk_passes.specs.Parts.{IsFull}
 use Rattle.mk_passes.specs.Blank.{one_digits, one_exponent, filled}
 use Rattle.mk_table.specs.inner.Numbers.{AreNumbers}
 use Rattle.mk_table.specs.inner.Touched.{HasTouched}
-use Rattle.mk_table.specs.inner.Store.{IsStoreOf, store_tables, scope_in, head_in, with_cells, with_ratios}
+use Rattle.mk_table.specs.inner.Store.{AreTables, HasCells, HasRatiosOf, IsSame, IsStoreOf, store_tables, scope_in, head_in, with_cells, with_ratios}
 use Rattle.mk_table.proofs.Whole.{AreParts, touched_cells}
-use Rattle.mk_table.proofs.Stored.{table_is_full}
+use Rattle.mk_table.proofs.Stored.{table_is_full, table_scope}
 use Rattle.mk_table.proofs.Ranges.{after_is}
 use Rattle.mk_table.proofs.Made.{seen_within, seen_scope, seen_shift, seen_touched, seen_full, seen_there, seen_parts}
 use Rattle.mk_table.proofs.Made.{made_table, made_only, made_scope, made_shift, made_touched, made_full, made_numbers, both_steps, at_shift, at_touched, other_table}
@@ -188,3 +189,55 @@ pub parts_counted : (scopes : List ScopeOf) (s : Store) (now : List TableOf) (k 
     → AreParts (table_in now k) scope (table_in now k).shift (filled one_digits count d) (filled one_exponent count e)
 parts_counted scopes s now k seen scope count d e is counted digits exponents =
     seen.parts scope _ _ is (ap (λ n. filled one_digits n d) counted ∙ digits) (ap (λ n. filled one_exponent n e) counted ∙ exponents)
+
+-- the tables of a store that was opened, whose scopes are lent
+pub record IsOpened (scopes lent : List ScopeOf) (now : List TableOf) (s o : Store) : Type 0 where
+  pub lent_is : lent ≡ scopes
+  pub view : store_tables scopes s ≡ now
+  pub same : IsSame lent s o
+
+-- one of them has become another: first its cells were changed, then its ratios
+pub record HasRun (scopes : List ScopeOf) (now : List TableOf) (w z : Store) (k shift : ℕ) (nd ne : List ℕ) : Type 0 where
+  pub heads : HasHeads now w
+  pub made : HasBecome now (store_tables scopes z) k shift nd ne (head_in z.heads.items k).touched
+  pub full : length (table_in (store_tables scopes z) k).digits ≡ cells_in (table_in (store_tables scopes z) k).scope
+
+pub record AreSeen (scopes : List ScopeOf) (s : Store) (now : List TableOf) (k m : ℕ) (places : PlacesOf) : Type 0 where
+  pub one : IsSeen scopes s now k
+  pub other : IsSeen scopes s now m
+  pub placed : ArePlaced scopes now k m places
+
+module _ {scopes lent : List ScopeOf} {now : List TableOf} {s o : Store} (h : IsOpened scopes lent now s o) where
+  pub opened_now : store_tables lent o ≡ now
+  opened_now = opened scopes lent h.lent_is s o now h.same.tables h.view
+
+  pub seen_in : (k : ℕ) → k < length now → IsSeen lent o now k
+  seen_in k l = is_seen lent o now h.same.opened.store opened_now k l
+
+  pub heads_after : (k : ℕ) → k < length now → {w : Store} {nd ne : List ℕ} → HasCells lent o w k nd ne → HasHeads now w
+  heads_after k l {w} {nd} {ne} cells = heads_kept lent now o w opened_now k l cells.opened.store nd ne cells.tables
+
+  pub has_run : (k : ℕ) → k < length now → {w z : Store} {nd ne : List ℕ} {kept : ℕ} → HasCells lent o w k nd ne → HasRatiosOf lent w z k kept
+      → (shift : ℕ) → (HasHeads now w → kept ≡ shift) → HasRun scopes now w z k shift nd ne
+  has_run k l {w} {z} {nd} {ne} {kept} cells ratios shift same = record {
+    heads = heads_after k l cells;
+    made = both_become scopes lent h.lent_is now o w z opened_now k l nd ne kept shift (same (heads_after k l cells)) (head_in z.heads.items k).touched cells.tables ratios.tables;
+    full = subst (λ (x : List ScopeOf). length (table_in (store_tables x z) k).digits ≡ cells_in (table_in (store_tables x z) k).scope) h.lent_is
+        (cells_long lent z ratios.store k within (table_in (store_tables lent z) k).scope
+        (sym (table_scope lent z.heads.items z.digits.items z.exponents.items _ _ _ ratios.store k within)));
+  }
+    where
+      within : k < length lent
+      within = (seen_in k l).within
+
+  -- the cells of each fit into the spare arrays
+  pub spare_fits : {spare : Spare} → AreTables scopes s spare → (k : ℕ) → k < length now
+      → (cells_in (scope_in lent k) ≤ vec_capacity spare.digits) × (cells_in (scope_in lent k) ≤ vec_capacity spare.exponents)
+  spare_fits are k l =
+      let within = (seen_in k l).within in
+      (room_lent scopes lent h.lent_is _ are.digits_fit k within, room_lent scopes lent h.lent_is _ are.exponents_fit k within)
+
+  -- two of them, with their places
+  pub see_both : {k m : ℕ} {places : PlacesOf} → k < length now → m < length now
+      → places ≡ record { whole = (table_in now k).scope; part = (table_in now m).scope } → AreSeen lent o now k m places
+  see_both {k} {m} {places} l n e = record { one = seen_in k l; other = seen_in m n; placed = are_placed lent o now k m places e (seen_in k l) (seen_in m n) }

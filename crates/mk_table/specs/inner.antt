@@ -2,3 +2,4 @@
 pub mod Touched
 pub mod Numbers
 pub mod Store
+pub mod Changes

@@ -1,6 +1,7 @@
 //! Tables over scopes: one cell for each list of values of some variables.
 #![tactic(auto)]
 
+mod changes;
 mod scopes;
 mod store;
 mod tables;

@@ -1,29 +1,21 @@
 //! The cells of all tables of an engine, in two arrays, and where those of each table stand.
 
-ghost use Rattle.std.specs.Prelude.{◌≡◌, ℕ, ◌+◌, ◌<◌, ◌≤◌, ◌==◌, ◌++◌, ◌∷◌, true, All, List, [], Option, None, Some, length, slice_index, replicate, slice_set, vec_len, vec_capacity};
+ghost use Rattle.std.specs.Prelude.{◌≡◌, ℕ, ◌+◌, ◌<◌, ◌≤◌, ◌++◌, true, List, [], Option, None, Some, length, slice_index, replicate, vec_len, vec_capacity};
 ghost use Rattle.mk_net.specs.declared.words.Pair.{Pair};
-ghost use Rattle.mk_net.specs.Named.{variable_at};
-ghost use Rattle.mk_net.specs.Asked.{ratio_pairs};
-ghost use Rattle.mk_net.specs.Trades.{trade_ratio};
-ghost use Rattle.mk_states.specs.Ratios.{units_of};
-ghost use Rattle.mk_sums.specs.There.{share_there, support_there};
-ghost use Rattle.mk_scope.specs.Scopes.{HasEvent, HasOneEach, HasSized, LiesIn, cells_in, has_variable};
-ghost use Rattle.mk_scope.specs.Cells.{values_at, cell_in, cells_where};
+ghost use Rattle.mk_scope.specs.Scopes.{HasEvent, LiesIn, cells_in};
+ghost use Rattle.mk_scope.specs.Cells.{cell_in};
 ghost use Rattle.mk_table.specs.Tables.{is_untouched_by};
-ghost use Rattle.mk_passes.specs.Parts.{max_shift, AreBlankOrFull, HaveRoom, IsChanged, IsFull, IsRestricted, IsTimes, IsTimesCell};
-ghost use Rattle.mk_table.specs.Lists.{table_in};
+ghost use Rattle.mk_passes.specs.Parts.{max_shift, AreBlankOrFull, HaveRoom, IsChanged, IsFull, IsTimesCell};
 ghost use Rattle.mk_passes.specs.Blank.{one_digits, one_exponent, filled};
-ghost use Rattle.mk_scope.specs.Runs.{IsAmong};
 ghost use Rattle.mk_table.specs.inner.Touched.{IsBeside, IsEither, IsEitherWithin, IsWithin};
-ghost use Rattle.mk_table.specs.inner.Store.{IsBlankFrom, IsNowhere, IsStoreOf, IsWrittenFrom, StandsFrom, is_written, store_tables, no_head, head_in, scope_in, with_cells, with_ratios};
+ghost use Rattle.mk_table.specs.inner.Store.{HasCells, HasRatiosOf, IsBlankFrom, IsNowhere, IsOpen, IsSame, IsStoreOf, IsWrittenFrom, StandsFrom, digits_in, exponents_in, head_in, is_written, no_head, scope_in};
+ghost use Rattle.mk_table.specs.inner.Changes.{Fits, HasMade};
 
+use crate::changes::Change;
 use crate::scopes::Scopes;
 use crate::touched::{beside, is_untouched_by, put_either_within, put_within, take_either};
-use mk_net::{Event, Network, Pair, Ratio};
-use mk_passes::{
-    RATIO_SHIFT, append_until, keep_value, one, put_cells, times_cells, times_shares,
-    times_supports, times_units,
-};
+use mk_net::{Event, Pair};
+use mk_passes::{Columns, RATIO_SHIFT, append_until, one};
 use mk_scope::Places;
 
 /// Where the cells of a table stand.
@@ -65,9 +57,7 @@ impl Store {
     #[inline]
     pub(crate) fn open(&mut self, scopes: &Scopes)
         requires { IsStoreOf scopes.now self.old }
-        ensures store { IsStoreOf scopes.now self.new }
-        ensures tables { store_tables scopes.now self.new ≡ store_tables scopes.now self.old }
-        ensures heads { length self.new.heads.items ≡ length scopes.now }
+        ensures same { IsSame scopes.now self.old self.new }
         ensures kept { (k : ℕ) → head_in self.new.heads.items k ≡ head_in self.old.heads.items k }
     {
         if self.heads.is_empty() {
@@ -125,8 +115,8 @@ impl Store {
         requires store { IsStoreOf scopes.now self.now }
         requires table { k < length scopes.now }
         ensures whole { AreBlankOrFull (cells_in (scope_in scopes.now k)) result.0.now result.1.now }
-        ensures digits { filled one_digits (cells_in (scope_in scopes.now k)) result.0.now ≡ (table_in (store_tables scopes.now self.now) k).digits }
-        ensures exponents { filled one_exponent (cells_in (scope_in scopes.now k)) result.1.now ≡ (table_in (store_tables scopes.now self.now) k).exponents }
+        ensures digits { filled one_digits (cells_in (scope_in scopes.now k)) result.0.now ≡ digits_in scopes.now self.now k }
+        ensures exponents { filled one_exponent (cells_in (scope_in scopes.now k)) result.1.now ≡ exponents_in scopes.now self.now k }
         ensures written { is_written (head_in self.now.heads.items k).place ≡ true → length result.0.now ≡ cells_in (scope_in scopes.now k) }
     {
         match self.place(k) {
@@ -140,12 +130,9 @@ impl Store {
 
     /// Writes the cells of a table, if they are not written, and says where they begin.
     pub(crate) fn written(&mut self, scopes: &Scopes, k: usize) -> usize
-        requires store { IsStoreOf scopes.now self.old }
-        requires heads { length self.old.heads.items ≡ length scopes.now }
+        requires opened { IsOpen scopes.now self.old }
         requires table { k < length scopes.now }
-        ensures store { IsStoreOf scopes.now self.new }
-        ensures heads { length self.new.heads.items ≡ length scopes.now }
-        ensures tables { store_tables scopes.now self.new ≡ store_tables scopes.now self.old }
+        ensures same { IsSame scopes.now self.old self.new }
         ensures place { IsWrittenFrom self.new.heads.items k result }
     {
         match self.heads[k].place {
@@ -164,13 +151,10 @@ impl Store {
 
     /// Writes ones at the end, as the cells of a table that stands nowhere.
     fn fill_end(&mut self, scopes: &Scopes, k: usize)
-        requires store { IsStoreOf scopes.now self.old }
-        requires heads { length self.old.heads.items ≡ length scopes.now }
+        requires opened { IsOpen scopes.now self.old }
         requires table { k < length scopes.now }
         requires nowhere { IsNowhere self.old.heads.items k }
-        ensures store { IsStoreOf scopes.now self.new }
-        ensures heads { length self.new.heads.items ≡ length scopes.now }
-        ensures tables { store_tables scopes.now self.new ≡ store_tables scopes.now self.old }
+        ensures same { IsSame scopes.now self.old self.new }
         ensures place { IsWrittenFrom self.new.heads.items k (length self.old.digits.items) }
     {
         let count = scopes.scope(k).cells();
@@ -183,13 +167,11 @@ impl Store {
 
     /// Writes ones where the cells of a blank table stand.
     fn fill_at(&mut self, scopes: &Scopes, k: usize, first: usize)
-        requires store { IsStoreOf scopes.now self.old }
-        requires heads { length self.old.heads.items ≡ length scopes.now }
+        requires opened { IsOpen scopes.now self.old }
         requires table { k < length scopes.now }
         requires blank { IsBlankFrom self.old.heads.items k first }
-        ensures store { IsStoreOf scopes.now self.new }
-        ensures heads { length self.new.heads.items ≡ length scopes.now }
-        ensures tables { store_tables scopes.now self.new ≡ store_tables scopes.now self.old }
+        requires stands { StandsFrom (head_in self.old.heads.items k).place first }
+        ensures same { IsSame scopes.now self.old self.new }
         ensures place { IsWrittenFrom self.new.heads.items k first }
     {
         let count = scopes.scope(k).cells();
@@ -201,15 +183,11 @@ impl Store {
 
     /// Puts cells into a table: ones, where nothing is written of them.
     pub(crate) fn put(&mut self, scopes: &Scopes, k: usize, spare: &Spare)
-        requires store { IsStoreOf scopes.now self.old }
-        requires heads { length self.old.heads.items ≡ length scopes.now }
+        requires opened { IsOpen scopes.now self.old }
         requires table { k < length scopes.now }
         requires whole { AreBlankOrFull (cells_in (scope_in scopes.now k)) spare.now.digits.items spare.now.exponents.items }
-        ensures store { IsStoreOf scopes.now self.new }
-        ensures heads { length self.new.heads.items ≡ length scopes.now }
-        ensures tables { store_tables scopes.now self.new ≡ slice_set (store_tables scopes.now self.old) k
-            (with_cells (table_in (store_tables scopes.now self.old) k) (filled one_digits (cells_in (scope_in scopes.now k)) spare.now.digits.items)
-            (filled one_exponent (cells_in (scope_in scopes.now k)) spare.now.exponents.items)) }
+        ensures { HasCells scopes.now self.old self.new k (filled one_digits (cells_in (scope_in scopes.now k)) spare.now.digits.items)
+            (filled one_exponent (cells_in (scope_in scopes.now k)) spare.now.exponents.items) }
     {
         let count = scopes.scope(k).cells();
         if spare.digits.len() < count {
@@ -225,16 +203,12 @@ impl Store {
 
     /// Writes cells at the end, as those of a table that stands nowhere.
     fn put_end(&mut self, scopes: &Scopes, k: usize, spare: &Spare)
-        requires store { IsStoreOf scopes.now self.old }
-        requires heads { length self.old.heads.items ≡ length scopes.now }
+        requires opened { IsOpen scopes.now self.old }
         requires table { k < length scopes.now }
         requires nowhere { IsNowhere self.old.heads.items k }
         requires digits { length spare.now.digits.items ≡ cells_in (scope_in scopes.now k) }
         requires exponents { length spare.now.exponents.items ≡ cells_in (scope_in scopes.now k) }
-        ensures store { IsStoreOf scopes.now self.new }
-        ensures heads { length self.new.heads.items ≡ length scopes.now }
-        ensures tables { store_tables scopes.now self.new ≡ slice_set (store_tables scopes.now self.old) k
-            (with_cells (table_in (store_tables scopes.now self.old) k) spare.now.digits.items spare.now.exponents.items) }
+        ensures { HasCells scopes.now self.old self.new k spare.now.digits.items spare.now.exponents.items }
     {
         let _ = scopes.count();
         self.heads[k].place = Place::Written(self.digits.len());
@@ -244,16 +218,12 @@ impl Store {
 
     /// Writes cells where those of a table stand.
     fn put_at(&mut self, scopes: &Scopes, k: usize, first: usize, spare: &Spare)
-        requires store { IsStoreOf scopes.now self.old }
-        requires heads { length self.old.heads.items ≡ length scopes.now }
+        requires opened { IsOpen scopes.now self.old }
         requires table { k < length scopes.now }
         requires stands { StandsFrom (head_in self.old.heads.items k).place first }
         requires digits { length spare.now.digits.items ≡ cells_in (scope_in scopes.now k) }
         requires exponents { length spare.now.exponents.items ≡ cells_in (scope_in scopes.now k) }
-        ensures store { IsStoreOf scopes.now self.new }
-        ensures heads { length self.new.heads.items ≡ length scopes.now }
-        ensures tables { store_tables scopes.now self.new ≡ slice_set (store_tables scopes.now self.old) k
-            (with_cells (table_in (store_tables scopes.now self.old) k) spare.now.digits.items spare.now.exponents.items) }
+        ensures { HasCells scopes.now self.old self.new k spare.now.digits.items spare.now.exponents.items }
     {
         let count = scopes.scope(k).cells();
         self.heads[k].place = Place::Written(first);
@@ -265,123 +235,39 @@ impl Store {
         );
     }
 
-    /// Multiplies each cell of a table by the share that it picks in the rows of a variable.
-    pub(crate) fn times_rows(&mut self, scopes: &Scopes, k: usize, net: &Network, variable: u32)
-        requires store { IsStoreOf scopes.now self.old }
-        requires heads { length self.old.heads.items ≡ length scopes.now }
+    /// Changes the cells of a table in place.
+    #[inline]
+    pub(crate) fn change(&mut self, scopes: &Scopes, k: usize, change: Change)
+        requires opened { IsOpen scopes.now self.old }
         requires table { k < length scopes.now }
-        requires variable { variable < length net.now }
-        requires family { HasSized net.now (scope_in scopes.now k) variable }
-        requires parents { All (HasSized net.now (scope_in scopes.now k)) (variable_at net.now variable).parents }
-        requires room { (j : ℕ) × HaveRoom j (table_in (store_tables scopes.now self.old) k).digits (table_in (store_tables scopes.now self.old) k).exponents 1 }
-        ensures store { IsStoreOf scopes.now self.new }
-        ensures heads { length self.new.heads.items ≡ length scopes.now }
-        ensures tables { store_tables scopes.now self.new ≡ slice_set (store_tables scopes.now self.old) k (with_cells (table_in (store_tables scopes.now self.old) k) (table_in (store_tables scopes.now self.new) k).digits (table_in (store_tables scopes.now self.new) k).exponents) }
-        ensures changed { IsChanged (λ c d e x y. IsTimes d e 0 (share_there net.now variable (values_at (scope_in scopes.now k) c)) 0 x y) (λ c. c < cells_in (scope_in scopes.now k)) (table_in (store_tables scopes.now self.old) k).digits (table_in (store_tables scopes.now self.old) k).exponents (table_in (store_tables scopes.now self.new) k).digits (table_in (store_tables scopes.now self.new) k).exponents }
+        requires fits { Fits change (scope_in scopes.now k) (digits_in scopes.now self.old k) (exponents_in scopes.now self.old k) }
+        ensures cells { HasCells scopes.now self.old self.new k (digits_in scopes.now self.new k) (exponents_in scopes.now self.new k) }
+        ensures made { HasMade change.entry (scope_in scopes.now k) (digits_in scopes.now self.old k) (exponents_in scopes.now self.old k)
+            (digits_in scopes.now self.new k) (exponents_in scopes.now self.new k) }
     {
         let scope = scopes.scope(k);
         let first = self.written(scopes, k);
         let end = first + scope.cells();
-        times_shares(
+        change.make(
             &mut self.digits[first..end],
             &mut self.exponents[first..end],
             scope,
-            net,
-            variable,
-        );
-    }
-
-    /// Makes absent each cell of a table that picks a share of nothing in the rows of a variable.
-    pub(crate) fn times_support(&mut self, scopes: &Scopes, k: usize, net: &Network, variable: u32)
-        requires store { IsStoreOf scopes.now self.old }
-        requires heads { length self.old.heads.items ≡ length scopes.now }
-        requires table { k < length scopes.now }
-        requires variable { variable < length net.now }
-        requires family { HasSized net.now (scope_in scopes.now k) variable }
-        requires parents { All (HasSized net.now (scope_in scopes.now k)) (variable_at net.now variable).parents }
-        requires room { (j : ℕ) × HaveRoom j (table_in (store_tables scopes.now self.old) k).digits (table_in (store_tables scopes.now self.old) k).exponents 1 }
-        ensures store { IsStoreOf scopes.now self.new }
-        ensures heads { length self.new.heads.items ≡ length scopes.now }
-        ensures tables { store_tables scopes.now self.new ≡ slice_set (store_tables scopes.now self.old) k (with_cells (table_in (store_tables scopes.now self.old) k) (table_in (store_tables scopes.now self.new) k).digits (table_in (store_tables scopes.now self.new) k).exponents) }
-        ensures changed { IsChanged (λ c d e x y. IsTimes d e 0 (support_there net.now variable (values_at (scope_in scopes.now k) c)) 0 x y) (λ c. c < cells_in (scope_in scopes.now k)) (table_in (store_tables scopes.now self.old) k).digits (table_in (store_tables scopes.now self.old) k).exponents (table_in (store_tables scopes.now self.new) k).digits (table_in (store_tables scopes.now self.new) k).exponents }
-    {
-        let scope = scopes.scope(k);
-        let first = self.written(scopes, k);
-        let end = first + scope.cells();
-        times_supports(
-            &mut self.digits[first..end],
-            &mut self.exponents[first..end],
-            scope,
-            net,
-            variable,
-        );
-    }
-
-    /// Multiplies chosen cells of a table by a ratio's units for the value that each gives the ratio's variable.
-    pub(crate) fn times_ratio(&mut self, scopes: &Scopes, k: usize, ratio: &Ratio, chosen: &[u16])
-        requires store { IsStoreOf scopes.now self.old }
-        requires heads { length self.old.heads.items ≡ length scopes.now }
-        requires table { k < length scopes.now }
-        requires event { HasEvent (scope_in scopes.now k) (ratio_pairs (trade_ratio ratio.now)) }
-        requires one_each { HasOneEach (scope_in scopes.now k) (trade_ratio ratio.now) }
-        requires chosen { chosen.now ≡ cells_where (scope_in scopes.now k) ratio.now.condition }
-        requires room { (j : ℕ) × HaveRoom j (table_in (store_tables scopes.now self.old) k).digits (table_in (store_tables scopes.now self.old) k).exponents 1 }
-        ensures store { IsStoreOf scopes.now self.new }
-        ensures heads { length self.new.heads.items ≡ length scopes.now }
-        ensures tables { store_tables scopes.now self.new ≡ slice_set (store_tables scopes.now self.old) k (with_cells (table_in (store_tables scopes.now self.old) k) (table_in (store_tables scopes.now self.new) k).digits (table_in (store_tables scopes.now self.new) k).exponents) }
-        ensures changed { IsChanged (λ c d e x y. IsTimes d e 40 (units_of (trade_ratio ratio.now) (values_at (scope_in scopes.now k) c ratio.now.variable)) 0 x y) (IsAmong chosen.now (length chosen.now)) (table_in (store_tables scopes.now self.old) k).digits (table_in (store_tables scopes.now self.old) k).exponents (table_in (store_tables scopes.now self.new) k).digits (table_in (store_tables scopes.now self.new) k).exponents }
-    {
-        let scope = scopes.scope(k);
-        let first = self.written(scopes, k);
-        let end = first + scope.cells();
-        times_units(
-            &mut self.digits[first..end],
-            &mut self.exponents[first..end],
-            scope,
-            ratio,
-            chosen,
-        );
-    }
-
-    /// Makes absent each cell of a table that gives the pair's variable another value.
-    pub(crate) fn restrict(&mut self, scopes: &Scopes, k: usize, pair: Pair)
-        requires store { IsStoreOf scopes.now self.old }
-        requires heads { length self.old.heads.items ≡ length scopes.now }
-        requires table { k < length scopes.now }
-        requires variable { has_variable (scope_in scopes.now k) pair.variable ≡ true }
-        ensures store { IsStoreOf scopes.now self.new }
-        ensures heads { length self.new.heads.items ≡ length scopes.now }
-        ensures tables { store_tables scopes.now self.new ≡ slice_set (store_tables scopes.now self.old) k (with_cells (table_in (store_tables scopes.now self.old) k) (table_in (store_tables scopes.now self.new) k).digits (table_in (store_tables scopes.now self.new) k).exponents) }
-        ensures changed { IsChanged (λ c d e x y. IsRestricted (values_at (scope_in scopes.now k) c pair.variable == pair.value) d e x y) (λ c. c < cells_in (scope_in scopes.now k)) (table_in (store_tables scopes.now self.old) k).digits (table_in (store_tables scopes.now self.old) k).exponents (table_in (store_tables scopes.now self.new) k).digits (table_in (store_tables scopes.now self.new) k).exponents }
-    {
-        let scope = scopes.scope(k);
-        let first = self.written(scopes, k);
-        let end = first + scope.cells();
-        keep_value(
-            &mut self.digits[first..end],
-            &mut self.exponents[first..end],
-            scope,
-            pair,
         );
     }
 
     /// Multiplies each cell of a table by the cell of a message that has its values. A blank message changes nothing.
     pub(crate) fn times(&mut self, scopes: &Scopes, k: usize, places: &Places, spare: &Spare)
-        requires store { IsStoreOf scopes.now self.old }
-        requires heads { length self.old.heads.items ≡ length scopes.now }
+        requires opened { IsOpen scopes.now self.old }
         requires table { k < length scopes.now }
         requires places { places.now.whole ≡ scope_in scopes.now k }
         requires whole { AreBlankOrFull (cells_in places.now.part) spare.now.digits.items spare.now.exponents.items }
-        requires room { (j : ℕ) × HaveRoom j (table_in (store_tables scopes.now self.old) k).digits (table_in (store_tables scopes.now self.old) k).exponents 1 }
+        requires room { (j : ℕ) × HaveRoom j (digits_in scopes.now self.old k) (exponents_in scopes.now self.old k) 1 }
         requires other_room { (j : ℕ) × HaveRoom j (filled one_digits (cells_in places.now.part) spare.now.digits.items) (filled one_exponent (cells_in places.now.part) spare.now.exponents.items) 1 }
-        ensures store { IsStoreOf scopes.now self.new }
-        ensures heads { length self.new.heads.items ≡ length scopes.now }
-        ensures tables { store_tables scopes.now self.new ≡ slice_set (store_tables scopes.now self.old) k
-            (with_cells (table_in (store_tables scopes.now self.old) k) (table_in (store_tables scopes.now self.new) k).digits (table_in (store_tables scopes.now self.new) k).exponents) }
+        ensures cells { HasCells scopes.now self.old self.new k (digits_in scopes.now self.new k) (exponents_in scopes.now self.new k) }
         ensures changed { IsChanged (λ c d e x y. IsTimesCell d e (slice_index (filled one_digits (cells_in places.now.part) spare.now.digits.items) (cell_in places.now.part places.now.whole c))
             (slice_index (filled one_exponent (cells_in places.now.part) spare.now.exponents.items) (cell_in places.now.part places.now.whole c)) x y)
-            (λ c. c < cells_in places.now.whole) (table_in (store_tables scopes.now self.old) k).digits (table_in (store_tables scopes.now self.old) k).exponents
-            (table_in (store_tables scopes.now self.new) k).digits (table_in (store_tables scopes.now self.new) k).exponents }
+            (λ c. c < cells_in places.now.whole) (digits_in scopes.now self.old k) (exponents_in scopes.now self.old k)
+            (digits_in scopes.now self.new k) (exponents_in scopes.now self.new k) }
         ensures lies_in { LiesIn places.now.part places.now.whole }
     {
         if spare.digits.len() < places.part_cells() {
@@ -391,32 +277,21 @@ impl Store {
             self.spread(scopes, k, places, spare);
             return;
         }
-        let first = self.written(scopes, k);
-        let end = first + places.whole_cells();
-        times_cells(
-            &mut self.digits[first..end],
-            &mut self.exponents[first..end],
-            places,
-            &spare.digits,
-            &spare.exponents,
-        );
+        let message = spare.columns();
+        self.change(scopes, k, Change::Times { places, message });
     }
 
     /// Puts into each cell of a table the cell of a message that has its values. A blank message leaves it blank.
     pub(crate) fn spread(&mut self, scopes: &Scopes, k: usize, places: &Places, spare: &Spare)
-        requires store { IsStoreOf scopes.now self.old }
-        requires heads { length self.old.heads.items ≡ length scopes.now }
+        requires opened { IsOpen scopes.now self.old }
         requires table { k < length scopes.now }
         requires places { places.now.whole ≡ scope_in scopes.now k }
         requires whole { AreBlankOrFull (cells_in places.now.part) spare.now.digits.items spare.now.exponents.items }
-        ensures store { IsStoreOf scopes.now self.new }
-        ensures heads { length self.new.heads.items ≡ length scopes.now }
-        ensures tables { store_tables scopes.now self.new ≡ slice_set (store_tables scopes.now self.old) k
-            (with_cells (table_in (store_tables scopes.now self.old) k) (table_in (store_tables scopes.now self.new) k).digits (table_in (store_tables scopes.now self.new) k).exponents) }
-        ensures full { IsFull places.now.whole (table_in (store_tables scopes.now self.new) k).digits (table_in (store_tables scopes.now self.new) k).exponents }
-        ensures digits { (c : ℕ) → c < cells_in places.now.whole → slice_index (table_in (store_tables scopes.now self.new) k).digits c
+        ensures cells { HasCells scopes.now self.old self.new k (digits_in scopes.now self.new k) (exponents_in scopes.now self.new k) }
+        ensures full { IsFull places.now.whole (digits_in scopes.now self.new k) (exponents_in scopes.now self.new k) }
+        ensures digits { (c : ℕ) → c < cells_in places.now.whole → slice_index (digits_in scopes.now self.new k) c
             ≡ slice_index (filled one_digits (cells_in places.now.part) spare.now.digits.items) (cell_in places.now.part places.now.whole c) }
-        ensures exponents { (c : ℕ) → c < cells_in places.now.whole → slice_index (table_in (store_tables scopes.now self.new) k).exponents c
+        ensures exponents { (c : ℕ) → c < cells_in places.now.whole → slice_index (exponents_in scopes.now self.new k) c
             ≡ slice_index (filled one_exponent (cells_in places.now.part) spare.now.exponents.items) (cell_in places.now.part places.now.whole c) }
         ensures lies_in { LiesIn places.now.part places.now.whole }
     {
@@ -424,28 +299,18 @@ impl Store {
             self.blank(scopes, k);
             return;
         }
-        let first = self.written(scopes, k);
-        let end = first + places.whole_cells();
-        put_cells(
-            &mut self.digits[first..end],
-            &mut self.exponents[first..end],
-            places.onto(),
-            &spare.digits,
-            &spare.exponents,
-        );
+        let message = spare.columns();
+        self.change(scopes, k, Change::Put { places, message });
     }
 
     /// Takes a ratio to those of a table.
     #[inline]
     pub(crate) fn take_ratio(&mut self, scopes: &Scopes, k: usize, condition: Event)
-        requires store { IsStoreOf scopes.now self.old }
-        requires heads { length self.old.heads.items ≡ length scopes.now }
+        requires opened { IsOpen scopes.now self.old }
         requires table { k < length scopes.now }
         requires event { HasEvent (scope_in scopes.now k) condition }
         requires small { (head_in self.old.heads.items k).shift < max_shift }
-        ensures store { IsStoreOf scopes.now self.new }
-        ensures tables { store_tables scopes.now self.new ≡ slice_set (store_tables scopes.now self.old) k (with_ratios (table_in (store_tables scopes.now self.old) k)
-            ((head_in self.old.heads.items k).shift + 40) (head_in self.new.heads.items k).touched) }
+        ensures ratios { HasRatiosOf scopes.now self.old self.new k ((head_in self.old.heads.items k).shift + 40) }
         ensures either { IsEither (head_in self.old.heads.items k).touched (Some condition) (head_in self.new.heads.items k).touched }
     {
         let head = &mut self.heads[k];
@@ -456,12 +321,9 @@ impl Store {
     /// Keeps the ratios of a table beside a pair.
     #[inline]
     pub(crate) fn keep_beside(&mut self, scopes: &Scopes, k: usize, pair: Pair)
-        requires store { IsStoreOf scopes.now self.old }
-        requires heads { length self.old.heads.items ≡ length scopes.now }
+        requires opened { IsOpen scopes.now self.old }
         requires table { k < length scopes.now }
-        ensures store { IsStoreOf scopes.now self.new }
-        ensures tables { store_tables scopes.now self.new ≡ slice_set (store_tables scopes.now self.old) k (with_ratios (table_in (store_tables scopes.now self.old) k)
-            ((head_in self.old.heads.items k).shift) (head_in self.new.heads.items k).touched) }
+        ensures ratios { HasRatiosOf scopes.now self.old self.new k ((head_in self.old.heads.items k).shift) }
         ensures beside { IsBeside pair (head_in self.old.heads.items k).touched (head_in self.new.heads.items k).touched }
     {
         let head = &mut self.heads[k];
@@ -471,12 +333,9 @@ impl Store {
     /// Takes the ratios of a table out.
     #[inline]
     pub(crate) fn drop_ratios(&mut self, scopes: &Scopes, k: usize)
-        requires store { IsStoreOf scopes.now self.old }
-        requires heads { length self.old.heads.items ≡ length scopes.now }
+        requires opened { IsOpen scopes.now self.old }
         requires table { k < length scopes.now }
-        ensures store { IsStoreOf scopes.now self.new }
-        ensures tables { store_tables scopes.now self.new ≡ slice_set (store_tables scopes.now self.old) k (with_ratios (table_in (store_tables scopes.now self.old) k)
-            (0) (head_in self.new.heads.items k).touched) }
+        ensures ratios { HasRatiosOf scopes.now self.old self.new k 0 }
         ensures touched { (head_in self.new.heads.items k).touched ≡ None }
     {
         let head = &mut self.heads[k];
@@ -487,16 +346,13 @@ impl Store {
     /// Takes the ratios of a message to those of a table.
     #[inline]
     pub(crate) fn take_ratios(&mut self, scopes: &Scopes, k: usize, message: usize)
-        requires store { IsStoreOf scopes.now self.old }
-        requires heads { length self.old.heads.items ≡ length scopes.now }
+        requires opened { IsOpen scopes.now self.old }
         requires table { k < length scopes.now }
         requires message_table { message < length scopes.now }
         requires lies_in { LiesIn (scope_in scopes.now message) (scope_in scopes.now k) }
         requires small { (head_in self.old.heads.items k).shift < max_shift }
         requires small_too { (head_in self.old.heads.items message).shift < max_shift }
-        ensures store { IsStoreOf scopes.now self.new }
-        ensures tables { store_tables scopes.now self.new ≡ slice_set (store_tables scopes.now self.old) k (with_ratios (table_in (store_tables scopes.now self.old) k)
-            ((head_in self.old.heads.items k).shift + (head_in self.old.heads.items message).shift) (head_in self.new.heads.items k).touched) }
+        ensures ratios { HasRatiosOf scopes.now self.old self.new k ((head_in self.old.heads.items k).shift + (head_in self.old.heads.items message).shift) }
         ensures either { IsEither (head_in self.old.heads.items k).touched (head_in self.old.heads.items message).touched (head_in self.new.heads.items k).touched }
     {
         let shift = self.heads[message].shift;
@@ -509,14 +365,11 @@ impl Store {
     /// Puts the ratios of a message into a table.
     #[inline]
     pub(crate) fn put_ratios(&mut self, scopes: &Scopes, k: usize, message: usize)
-        requires store { IsStoreOf scopes.now self.old }
-        requires heads { length self.old.heads.items ≡ length scopes.now }
+        requires opened { IsOpen scopes.now self.old }
         requires table { k < length scopes.now }
         requires message_table { message < length scopes.now }
         requires lies_in { LiesIn (scope_in scopes.now message) (scope_in scopes.now k) }
-        ensures store { IsStoreOf scopes.now self.new }
-        ensures tables { store_tables scopes.now self.new ≡ slice_set (store_tables scopes.now self.old) k (with_ratios (table_in (store_tables scopes.now self.old) k)
-            ((head_in self.old.heads.items message).shift) (head_in self.new.heads.items k).touched) }
+        ensures ratios { HasRatiosOf scopes.now self.old self.new k ((head_in self.old.heads.items message).shift) }
         ensures touched { (head_in self.new.heads.items k).touched ≡ (head_in self.old.heads.items message).touched }
     {
         let shift = self.heads[message].shift;
@@ -529,13 +382,10 @@ impl Store {
     /// Puts the ratios of a table into one over some of its variables.
     #[inline]
     pub(crate) fn put_ratios_within(&mut self, scopes: &Scopes, k: usize, out: usize)
-        requires store { IsStoreOf scopes.now self.old }
-        requires heads { length self.old.heads.items ≡ length scopes.now }
+        requires opened { IsOpen scopes.now self.old }
         requires table { k < length scopes.now }
         requires out_table { out < length scopes.now }
-        ensures store { IsStoreOf scopes.now self.new }
-        ensures tables { store_tables scopes.now self.new ≡ slice_set (store_tables scopes.now self.old) out (with_ratios (table_in (store_tables scopes.now self.old) out)
-            ((head_in self.old.heads.items k).shift) (head_in self.new.heads.items out).touched) }
+        ensures ratios { HasRatiosOf scopes.now self.old self.new out ((head_in self.old.heads.items k).shift) }
         ensures within { IsWithin (scope_in scopes.now out) (head_in self.old.heads.items k).touched (head_in self.new.heads.items out).touched }
     {
         let shift = self.heads[k].shift;
@@ -548,13 +398,10 @@ impl Store {
     /// Takes the ratios of a table to those of one over some of its variables, under the table's shift.
     #[inline]
     pub(crate) fn take_ratios_within(&mut self, scopes: &Scopes, k: usize, out: usize)
-        requires store { IsStoreOf scopes.now self.old }
-        requires heads { length self.old.heads.items ≡ length scopes.now }
+        requires opened { IsOpen scopes.now self.old }
         requires table { k < length scopes.now }
         requires out_table { out < length scopes.now }
-        ensures store { IsStoreOf scopes.now self.new }
-        ensures tables { store_tables scopes.now self.new ≡ slice_set (store_tables scopes.now self.old) out (with_ratios (table_in (store_tables scopes.now self.old) out)
-            ((head_in self.old.heads.items k).shift) (head_in self.new.heads.items out).touched) }
+        ensures ratios { HasRatiosOf scopes.now self.old self.new out ((head_in self.old.heads.items k).shift) }
         ensures within { (within : Option (List Pair)) × IsWithin (scope_in scopes.now out) (head_in self.old.heads.items k).touched within
             × IsEither (head_in self.old.heads.items out).touched within (head_in self.new.heads.items out).touched }
     {
@@ -575,16 +422,13 @@ impl Store {
         second: usize,
         out: usize,
     )
-        requires store { IsStoreOf scopes.now self.old }
-        requires heads { length self.old.heads.items ≡ length scopes.now }
+        requires opened { IsOpen scopes.now self.old }
         requires table { first < length scopes.now }
         requires second_table { second < length scopes.now }
         requires out_table { out < length scopes.now }
         requires small { (head_in self.old.heads.items first).shift < max_shift }
         requires small_too { (head_in self.old.heads.items second).shift < max_shift }
-        ensures store { IsStoreOf scopes.now self.new }
-        ensures tables { store_tables scopes.now self.new ≡ slice_set (store_tables scopes.now self.old) out (with_ratios (table_in (store_tables scopes.now self.old) out)
-            ((head_in self.old.heads.items first).shift + (head_in self.old.heads.items second).shift) (head_in self.new.heads.items out).touched) }
+        ensures ratios { HasRatiosOf scopes.now self.old self.new out ((head_in self.old.heads.items first).shift + (head_in self.old.heads.items second).shift) }
         ensures within { IsEitherWithin (scope_in scopes.now out) (head_in self.old.heads.items first).touched (head_in self.old.heads.items second).touched
             (head_in self.new.heads.items out).touched }
     {
@@ -603,14 +447,10 @@ impl Store {
 
     /// Makes each cell of a table 1. Its place stays.
     pub(crate) fn blank(&mut self, scopes: &Scopes, k: usize)
-        requires store { IsStoreOf scopes.now self.old }
-        requires heads { length self.old.heads.items ≡ length scopes.now }
+        requires opened { IsOpen scopes.now self.old }
         requires table { k < length scopes.now }
-        ensures store { IsStoreOf scopes.now self.new }
-        ensures heads { length self.new.heads.items ≡ length scopes.now }
-        ensures tables { store_tables scopes.now self.new ≡ slice_set (store_tables scopes.now self.old) k
-            (with_cells (table_in (store_tables scopes.now self.old) k) (replicate (cells_in (scope_in scopes.now k)) one_digits)
-            (replicate (cells_in (scope_in scopes.now k)) one_exponent)) }
+        ensures { HasCells scopes.now self.old self.new k (replicate (cells_in (scope_in scopes.now k)) one_digits)
+            (replicate (cells_in (scope_in scopes.now k)) one_exponent) }
     {
         if let Place::Written(first) = self.heads[k].place {
             self.heads[k].place = Place::Blank(first);
@@ -619,6 +459,18 @@ impl Store {
 }
 
 impl Spare {
+    /// What is there, to be read.
+    #[inline]
+    fn columns(&self) -> Columns<'_>
+        ensures digits { result.digits.now ≡ self.now.digits.items }
+        ensures exponents { result.exponents.now ≡ self.now.exponents.items }
+    {
+        Columns {
+            digits: &self.digits,
+            exponents: &self.exponents,
+        }
+    }
+
     /// Takes what is there out.
     #[inline]
     pub(crate) fn clear(&mut self)
@@ -639,8 +491,8 @@ impl Spare {
         requires digits_fit { cells_in (scope_in scopes.now k) ≤ vec_capacity self.old.digits }
         requires exponents_fit { cells_in (scope_in scopes.now k) ≤ vec_capacity self.old.exponents }
         ensures whole { AreBlankOrFull (cells_in (scope_in scopes.now k)) self.new.digits.items self.new.exponents.items }
-        ensures digits { filled one_digits (cells_in (scope_in scopes.now k)) self.new.digits.items ≡ (table_in (store_tables scopes.now store.now) k).digits }
-        ensures exponents { filled one_exponent (cells_in (scope_in scopes.now k)) self.new.exponents.items ≡ (table_in (store_tables scopes.now store.now) k).exponents }
+        ensures digits { filled one_digits (cells_in (scope_in scopes.now k)) self.new.digits.items ≡ digits_in scopes.now store.now k }
+        ensures exponents { filled one_exponent (cells_in (scope_in scopes.now k)) self.new.exponents.items ≡ exponents_in scopes.now store.now k }
         ensures digits_room { vec_capacity self.old.digits ≤ vec_capacity self.new.digits }
         ensures exponents_room { vec_capacity self.old.exponents ≤ vec_capacity self.new.exponents }
     {

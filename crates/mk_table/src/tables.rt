@@ -16,6 +16,7 @@ ghost use Rattle.mk_table.specs.Margins.{IsMarginBut};
 ghost use Rattle.mk_table.specs.Lists.{IsOnes, no_scope, table_in};
 ghost use Rattle.mk_passes.specs.Parts.{IsFull, StandListed};
 
+use crate::changes::Change;
 use crate::scopes::Scopes;
 use crate::store::{Place, Spare, Store};
 use crate::touched::pairs_within;
@@ -141,7 +142,8 @@ impl<R: Semiring> Tables<R> {
     {
         let scopes: &Scopes = &self.scopes;
         self.store.open(scopes);
-        self.store.times_rows(scopes, k, net, variable);
+        self.store
+            .change(scopes, k, Change::Shares { net, variable });
     }
 
     /// Makes absent each cell that picks a share of nothing in the rows of a variable.
@@ -161,7 +163,8 @@ impl<R: Semiring> Tables<R> {
     {
         let scopes: &Scopes = &self.scopes;
         self.store.open(scopes);
-        self.store.times_support(scopes, k, net, variable);
+        self.store
+            .change(scopes, k, Change::Supports { net, variable });
     }
 
     /// Multiplies each cell by the units of a trade there: the number for the value of the ratio's variable where its
@@ -183,7 +186,9 @@ impl<R: Semiring> Tables<R> {
         let scopes: &Scopes = &self.scopes;
         self.store.open(scopes);
         scopes.scope(k).cells_where(&ratio.condition, chosen);
-        self.store.times_ratio(scopes, k, ratio, chosen.as_slice());
+        let chosen = chosen.as_slice();
+        self.store
+            .change(scopes, k, Change::Units { ratio, chosen });
         self.store.take_ratio(scopes, k, ratio.condition);
     }
 
@@ -201,7 +206,7 @@ impl<R: Semiring> Tables<R> {
     {
         let scopes: &Scopes = &self.scopes;
         self.store.open(scopes);
-        self.store.restrict(scopes, k, pair);
+        self.store.change(scopes, k, Change::Kept { pair });
         self.store.keep_beside(scopes, k, pair);
     }
 

@@ -1,5 +1,5 @@
 -- All tables of an engine in one piece: where the cells of each stand, and two arrays.
-use Rattle.std.specs.Prelude.{◌≡◌, ◌≢◌, ℕ, ◌+◌, ◌<◌, ◌≤◌, ◌⊎◌, Bool, true, false, List, [], ◌∷◌, map, length, replicate, slice_index_or, take, drop, Option, None, vec_capacity}
+use Rattle.std.specs.Prelude.{◌≡◌, ◌≢◌, ℕ, ◌+◌, ◌<◌, ◌≤◌, ◌⊎◌, Bool, true, false, List, [], ◌∷◌, map, length, replicate, slice_index_or, slice_set, take, drop, Option, None, vec_capacity}
 use Rattle.mk_net.specs.declared.words.Pair.{Pair}
 use Rattle.mk_net.specs.Bounds.{max_clique_cells}
 use Rattle.mk_states.specs.States.{numbers_below}
@@ -10,7 +10,7 @@ use Rattle.mk_table.specs.declared.store.Store.{Store}
 use Rattle.mk_table.specs.declared.store.Spare.{Spare}
 use Rattle.mk_scope.specs.Scopes.{ScopeOf, cells_in}
 use Rattle.mk_table.specs.Tables.{TableOf}
-use Rattle.mk_table.specs.Lists.{no_scope}
+use Rattle.mk_table.specs.Lists.{no_scope, table_in}
 use Rattle.mk_passes.specs.Blank.{one_digits, one_exponent}
 use Rattle.mk_table.specs.inner.Touched.{HasTouched}
 
@@ -122,3 +122,29 @@ IsBlankFrom heads k first = (head_in heads k).place ≡ Blank first
 
 abbrev pub IsNowhere : List Head → ℕ → Type 0
 IsNowhere heads k = (head_in heads k).place ≡ Nowhere
+
+-- a store of these scopes, with a head for each
+pub record IsOpen (scopes : List ScopeOf) (s : Store) : Type 0 where
+  pub store : IsStoreOf scopes s
+  pub heads : length s.heads.items ≡ length scopes
+
+abbrev pub digits_in : List ScopeOf → Store → ℕ → List ℕ
+digits_in scopes s k = (table_in (store_tables scopes s) k).digits
+
+abbrev pub exponents_in : List ScopeOf → Store → ℕ → List ℕ
+exponents_in scopes s k = (table_in (store_tables scopes s) k).exponents
+
+-- its tables are as they were
+pub record IsSame (scopes : List ScopeOf) (old new : Store) : Type 0 where
+  pub opened : IsOpen scopes new
+  pub tables : store_tables scopes new ≡ store_tables scopes old
+
+-- one table has other cells
+pub record HasCells (scopes : List ScopeOf) (old new : Store) (k : ℕ) (digits exponents : List ℕ) : Type 0 where
+  pub opened : IsOpen scopes new
+  pub tables : store_tables scopes new ≡ slice_set (store_tables scopes old) k (with_cells (table_in (store_tables scopes old) k) digits exponents)
+
+-- one table has another shift, and the event that its head has
+pub record HasRatiosOf (scopes : List ScopeOf) (old new : Store) (k shift : ℕ) : Type 0 where
+  pub store : IsStoreOf scopes new
+  pub tables : store_tables scopes new ≡ slice_set (store_tables scopes old) k (with_ratios (table_in (store_tables scopes old) k) shift (head_in new.heads.items k).touched)

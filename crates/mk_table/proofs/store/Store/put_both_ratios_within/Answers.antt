@@ -6,12 +6,13 @@ use Rattle.mk_scope.specs.Scopes.{ScopeOf}
 use Rattle.mk_table.specs.inner.Touched.{HasTouched}
 use Rattle.mk_table.proofs.store.Store.put_both_ratios_within.Goals as goal
 
-pub returns-clause-store : goal.returns-clause-store
-returns-clause-store c =
-    ratios_store _ _ _ _ _ _ _ c.requires.store c.requires.heads c.args.out c.requires.out_table c.index_mut-head.result.now c.index_mut-head.ensures.value (c.index.result.now.shift + c.index-2.result.now.shift) (c.put_either_within.new.out)
-    (subst (λ (s : ScopeOf). HasTouched s c.put_either_within.new.out) c.scope.ensures c.put_either_within.ensures.there)
-
-pub returns-clause-tables : goal.returns-clause-tables
-returns-clause-tables c =
-    ratios_tables _ _ _ _ _ _ _ c.requires.store c.requires.heads c.args.out c.requires.out_table c.index_mut-head.result.now c.index_mut-head.ensures.value (c.index.result.now.shift + c.index-2.result.now.shift) ((head_in c.args.self.now.heads.items c.args.first).shift + (head_in c.args.self.now.heads.items c.args.second).shift) (c.put_either_within.new.out)
-    (ap (λ (y : Head). y.shift + c.index-2.result.now.shift) (head_is _ _ _ _ _ _ _ c.requires.store c.requires.heads c.args.first c.requires.table c.index.result.now c.index.ensures) ∙ ap (λ (y : Head). (head_in c.args.self.now.heads.items c.args.first).shift + y.shift) (head_is _ _ _ _ _ _ _ c.requires.store c.requires.heads c.args.second c.requires.second_table c.index-2.result.now c.index-2.ensures))
+pub returns-clause-ratios : goal.returns-clause-ratios
+returns-clause-ratios c =
+    record {
+      store =
+          ratios_store _ _ _ _ _ _ _ c.requires.opened.store c.requires.opened.heads c.args.out c.requires.out_table c.index_mut-head.result.now c.index_mut-head.ensures.value (c.index.result.now.shift + c.index-2.result.now.shift) (c.put_either_within.new.out)
+          (subst (λ (s : ScopeOf). HasTouched s c.put_either_within.new.out) c.scope.ensures c.put_either_within.ensures.there);
+      tables =
+          ratios_tables _ _ _ _ _ _ _ c.requires.opened.store c.requires.opened.heads c.args.out c.requires.out_table c.index_mut-head.result.now c.index_mut-head.ensures.value (c.index.result.now.shift + c.index-2.result.now.shift) ((head_in c.args.self.now.heads.items c.args.first).shift + (head_in c.args.self.now.heads.items c.args.second).shift) (c.put_either_within.new.out)
+          (ap (λ (y : Head). y.shift + c.index-2.result.now.shift) (head_is _ _ _ _ _ _ _ c.requires.opened.store c.requires.opened.heads c.args.first c.requires.table c.index.result.now c.index.ensures) ∙ ap (λ (y : Head). (head_in c.args.self.now.heads.items c.args.first).shift + y.shift) (head_is _ _ _ _ _ _ _ c.requires.opened.store c.requires.opened.heads c.args.second c.requires.second_table c.index-2.result.now c.index-2.ensures));
+    }

@@ -6,12 +6,13 @@ use Rattle.mk_scope.specs.Scopes.{ScopeOf}
 use Rattle.mk_table.specs.inner.Touched.{HasTouched}
 use Rattle.mk_table.proofs.store.Store.take_ratios_within.Goals as goal
 
-pub returns-clause-store : goal.returns-clause-store
-returns-clause-store c =
-    ratios_store _ _ _ _ _ _ _ c.requires.store c.requires.heads c.args.out c.requires.out_table c.index_mut-head.result.now c.index_mut-head.ensures.value (c.index.result.now.shift) (c.take_either.new.touched)
-    (c.take_either.ensures.variables (scope_in c.args.scopes.now c.args.out) (read_there _ _ _ _ _ _ _ c.requires.store c.requires.heads c.args.out c.requires.out_table c.index_mut-head.result.now c.index_mut-head.ensures.value) (subst (λ (s : ScopeOf). HasTouched s c.put_within.new.out) c.scope.ensures c.put_within.ensures.there))
-
-pub returns-clause-tables : goal.returns-clause-tables
-returns-clause-tables c =
-    ratios_tables _ _ _ _ _ _ _ c.requires.store c.requires.heads c.args.out c.requires.out_table c.index_mut-head.result.now c.index_mut-head.ensures.value (c.index.result.now.shift) ((head_in c.args.self.now.heads.items c.args.k).shift) (c.take_either.new.touched)
-    (ap (λ (y : Head). y.shift) (head_is _ _ _ _ _ _ _ c.requires.store c.requires.heads c.args.k c.requires.table c.index.result.now c.index.ensures))
+pub returns-clause-ratios : goal.returns-clause-ratios
+returns-clause-ratios c =
+    record {
+      store =
+          ratios_store _ _ _ _ _ _ _ c.requires.opened.store c.requires.opened.heads c.args.out c.requires.out_table c.index_mut-head.result.now c.index_mut-head.ensures.value (c.index.result.now.shift) (c.take_either.new.touched)
+          (c.take_either.ensures.variables (scope_in c.args.scopes.now c.args.out) (read_there _ _ _ _ _ _ _ c.requires.opened.store c.requires.opened.heads c.args.out c.requires.out_table c.index_mut-head.result.now c.index_mut-head.ensures.value) (subst (λ (s : ScopeOf). HasTouched s c.put_within.new.out) c.scope.ensures c.put_within.ensures.there));
+      tables =
+          ratios_tables _ _ _ _ _ _ _ c.requires.opened.store c.requires.opened.heads c.args.out c.requires.out_table c.index_mut-head.result.now c.index_mut-head.ensures.value (c.index.result.now.shift) ((head_in c.args.self.now.heads.items c.args.k).shift) (c.take_either.new.touched)
+          (ap (λ (y : Head). y.shift) (head_is _ _ _ _ _ _ _ c.requires.opened.store c.requires.opened.heads c.args.k c.requires.table c.index.result.now c.index.ensures));
+    }

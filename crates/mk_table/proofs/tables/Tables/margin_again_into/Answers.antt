@@ -28,7 +28,7 @@ use Rattle.mk_table.proofs.tables.Tables.margin_again_into.Goals as goal
 use Rattle.mk_table.proofs.tables.Tables.margin_again_into.Goals.{After-open, After-as_slice, After-plus_at_chosen, After-put, After-take_ratios_within}
 
 seen : (g : Over) (c : After-open g) (k : ℕ) → k < length c.args.self.now → IsSeen c.deref-scopes.result.now c.open.new.self c.args.self.now k
-seen g c = is_seen _ c.open.new.self _ c.open.ensures.store (opened _ _ c.deref-scopes.ensures c.self.inside.store c.open.new.self _ c.open.ensures.tables
+seen g c = is_seen _ c.open.new.self _ c.open.ensures.same.opened.store (opened _ _ c.deref-scopes.ensures c.self.inside.store c.open.new.self _ c.open.ensures.same.tables
     c.self.view_is)
 
 placed : (g : Over) (c : After-open g) → ArePlaced c.deref-scopes.result.now c.args.self.now c.args.k c.args.out c.args.places.now
@@ -36,9 +36,9 @@ placed g c = are_placed _ c.open.new.self _ _ _ _ c.requires.places (seen g c _ 
 
 heads : (g : Over) (c : After-put g) → HasHeads c.args.self.now c.put.new.self
 heads g c =
-    heads_kept _ _ c.open.new.self c.put.new.self (opened _ _ c.deref-scopes.ensures c.self.inside.store c.open.new.self _ c.open.ensures.tables c.self.view_is)
+    heads_kept _ _ c.open.new.self c.put.new.self (opened _ _ c.deref-scopes.ensures c.self.inside.store c.open.new.self _ c.open.ensures.same.tables c.self.view_is)
     _ c.requires.out_table
-    c.put.ensures.store _ _ c.put.ensures.tables
+    c.put.ensures.opened.store _ _ c.put.ensures.tables
 
 becomes : (g : Over) (c : After-take_ratios_within g) → HasHeads c.args.self.now c.put.new.self
     → let count = cells_in (scope_in c.deref-scopes.result.now c.args.out) in
@@ -48,8 +48,8 @@ becomes : (g : Over) (c : After-take_ratios_within g) → HasHeads c.args.self.n
     (head_in c.take_ratios_within.new.self.heads.items c.args.out).touched
 becomes g c keep =
     both_become _ _ c.deref-scopes.ensures _ c.open.new.self c.put.new.self c.take_ratios_within.new.self
-    (opened _ _ c.deref-scopes.ensures c.self.inside.store c.open.new.self _ c.open.ensures.tables c.self.view_is)
-    _ c.requires.out_table _ _ _ _ (keep.shift _ c.requires.table) _ c.put.ensures.tables c.take_ratios_within.ensures.tables
+    (opened _ _ c.deref-scopes.ensures c.self.inside.store c.open.new.self _ c.open.ensures.same.tables c.self.view_is)
+    _ c.requires.out_table _ _ _ _ (keep.shift _ c.requires.table) _ c.put.ensures.tables c.take_ratios_within.ensures.ratios.tables
 
 parts : (g : Over) (c : After-as_slice g) → IsSeen c.deref-scopes.result.now c.open.new.self c.args.self.now c.args.k
     → c.args.places.now.whole ≡ scope_in c.deref-scopes.result.now c.args.k
@@ -221,7 +221,7 @@ returns-clause-numbers g c =
     λ f n has but.
     let now = table_in c.args.self.now c.args.k in let before = table_in c.args.self.now c.args.out in let there = before.scope in
     let allowed = c.pairs_within-allowed.result in let S = c.deref-scopes.result.now in
-    let view = opened _ _ c.deref-scopes.ensures c.self.inside.store c.open.new.self _ c.open.ensures.tables c.self.view_is in
+    let view = opened _ _ c.deref-scopes.ensures c.self.inside.store c.open.new.self _ c.open.ensures.same.tables c.self.view_is in
     let count = all g (goal.at.returns-clause-numbers g c).After-as_slice p.part_is in
     let sums : ℕ → ℕ = λ i. plus_over g.R.Semiring.plus_of 0 f (cells_onto there now.scope i) in let steps = n + (2 * cells_beside there now.scope - 1) in
     let lists : ArePlaces there now.scope bases offsets c.lists-run.result.2 =

@@ -24,7 +24,7 @@ use Rattle.mk_table.proofs.tables.Tables.margin_into.Goals as goal
 use Rattle.mk_table.proofs.tables.Tables.margin_into.Goals.{After-open, After-put, After-put_ratios_within}
 
 seen : (g : Over) (c : After-open g) (k : ℕ) → k < length c.args.self.now → IsSeen c.deref-scopes.result.now c.open.new.self c.args.self.now k
-seen g c = is_seen _ c.open.new.self _ c.open.ensures.store (opened _ _ c.deref-scopes.ensures c.self.inside.store c.open.new.self _ c.open.ensures.tables
+seen g c = is_seen _ c.open.new.self _ c.open.ensures.same.opened.store (opened _ _ c.deref-scopes.ensures c.self.inside.store c.open.new.self _ c.open.ensures.same.tables
     c.self.view_is)
 
 placed : (g : Over) (c : After-open g) → ArePlaced c.deref-scopes.result.now c.args.self.now c.args.k c.args.out c.args.places.now
@@ -32,9 +32,9 @@ placed g c = are_placed _ c.open.new.self _ _ _ _ c.requires.places (seen g c _ 
 
 heads : (g : Over) (c : After-put g) → HasHeads c.args.self.now c.put.new.self
 heads g c =
-    heads_kept _ _ c.open.new.self c.put.new.self (opened _ _ c.deref-scopes.ensures c.self.inside.store c.open.new.self _ c.open.ensures.tables c.self.view_is)
+    heads_kept _ _ c.open.new.self c.put.new.self (opened _ _ c.deref-scopes.ensures c.self.inside.store c.open.new.self _ c.open.ensures.same.tables c.self.view_is)
     _ c.requires.out_table
-    c.put.ensures.store _ _ c.put.ensures.tables
+    c.put.ensures.opened.store _ _ c.put.ensures.tables
 
 becomes : (g : Over) (c : After-put_ratios_within g) → HasHeads c.args.self.now c.put.new.self
     → let count = cells_in (scope_in c.deref-scopes.result.now c.args.out) in
@@ -43,8 +43,8 @@ becomes : (g : Over) (c : After-put_ratios_within g) → HasHeads c.args.self.no
     (head_in c.put_ratios_within.new.self.heads.items c.args.out).touched
 becomes g c keep =
     both_become _ _ c.deref-scopes.ensures _ c.open.new.self c.put.new.self c.put_ratios_within.new.self
-    (opened _ _ c.deref-scopes.ensures c.self.inside.store c.open.new.self _ c.open.ensures.tables c.self.view_is)
-    _ c.requires.out_table _ _ _ _ (keep.shift _ c.requires.table) _ c.put.ensures.tables c.put_ratios_within.ensures.tables
+    (opened _ _ c.deref-scopes.ensures c.self.inside.store c.open.new.self _ c.open.ensures.same.tables c.self.view_is)
+    _ c.requires.out_table _ _ _ _ (keep.shift _ c.requires.table) _ c.put.ensures.tables c.put_ratios_within.ensures.ratios.tables
 
 inside : (g : Over) (c : After-put_ratios_within g) → HasHeads c.args.self.now c.put.new.self
     → c.args.places.now.part ≡ scope_in c.deref-scopes.result.now c.args.out
@@ -120,7 +120,7 @@ put-requires-clause-whole g c =
 pub invariant_of-self : goal.invariant_of-self
 invariant_of-self g c =
     record {
-      store_is = subst (λ (x : List ScopeOf). IsStoreOf x c.put_ratios_within.new.self) c.deref-scopes.ensures c.put_ratios_within.ensures.store;
+      store_is = subst (λ (x : List ScopeOf). IsStoreOf x c.put_ratios_within.new.self) c.deref-scopes.ensures c.put_ratios_within.ensures.ratios.store;
       digits_fit = λ j l. let f = c.self.invariant.digits_fit j l in omega (arith, f, c.clear.ensures.digits_room, c.plus_of_each.ensures.digits_room);
       exponents_fit = λ j l. let f = c.self.invariant.exponents_fit j l in omega (
         arith,
