@@ -6,7 +6,6 @@ use Rattle.std.specs.List.{AllByRecursion, list_all}
 use Rattle.std.proofs.lemmas.Bool.{and_parts, both_ways, cases_Bool}
 use Rattle.std.proofs.lemmas.List.Elements.{All-weaker, All-contains, All-from_recursion, recursion_from_All}
 use Rattle.mk_net.specs.declared.words.Pair.{Pair}
-use Rattle.mk_net.specs.Bounds.{number_limit}
 use Rattle.mk_sets.specs.Sets.{is_member, no_variables}
 use Rattle.mk_states.specs.States.{plus_over}
 use Rattle.mk_states.specs.Lawful.{Lawful}
@@ -34,7 +33,7 @@ use Rattle.mk_propagate.specs.Placings.{Placing, PlacedFactor, IsCommon, placed_
 use Rattle.mk_propagate.specs.Flows.{FlowOf, HasCells, HasSums, HasPlaced, core_there, core_steps, AreRightInto, IsRight, IsReading, exact_message, all_cells, reading_grade, table_at}
 use Rattle.mk_propagate.specs.inner.Kept.{IsKept}
 use Rattle.mk_propagate.specs.inner.Gathered.{is_input, gathered, gathered_steps, gathered_ratios, HasGathered, HasInto}
-use Rattle.mk_propagate.specs.inner.Totals.{HaveTotal}
+use Rattle.mk_propagate.specs.inner.Totals.{HaveTotal, IsTotal, total_of}
 use Rattle.mk_plan.proofs.Scopes.{has_within, clique_counted}
 use Rattle.mk_plan.proofs.Cores.{core_part}
 use Rattle.mk_propagate.proofs.Margins.{apart, parted, total_over, values_of_part}
@@ -230,16 +229,26 @@ module _ (plus : ℕ → ℕ → ℕ) (law : Lawful plus) (flow : FlowOf) (produ
         let m = mul-le-mul_left (whole_sum (without_ratios (meaning_of tree p))) (pow-le-pow_right {n = 2} (omega arith) few) in
         omega (arith, l, m, e)
 
-  pub reading_of : {V : Type 0} (encloses : V → ℕ → Type 0) (has_grade : V → ℕ → Type 0) (is_exact : V → Type 0) (r : V) (grade : ℕ) → grade ≡ counted_grade
-      → encloses r totalled → has_grade r grade → (totalled < number_limit → is_exact r)
-      → (is_untouched table event ≡ true → is_untouched into event ≡ true → (own : ℕ) → totalled ≤ own * 2 ^ (table.shift + into.shift) → own < number_limit → is_exact r)
+  -- what encloses the total of a table's cells and the messages is a reading, where the total is the belief
+  reads : (t : TableOf) → t.shift ≡ 40 * ratios_in p k → (IsApart (meaning_of tree p) event → is_untouched t event ≡ true) → (grade : ℕ) → grade ≡ counted_grade
+      → (can : HaveTotal t into grade) → total_of plus t into event can.numbers can.others ≡ exact_belief plus (meaning_of tree p) event
+      → {V : Type 0} (encloses : V → ℕ → Type 0) (has_grade : V → ℕ → Type 0) (is_exact : V → Type 0) (r : V) → IsTotal encloses has_grade is_exact plus t into event grade r
       → IsReading encloses has_grade is_exact plus tree p k event r
-  reading_of encloses has_grade is_exact r grade is value graded exact apart = record {
-    enclosed = subst (encloses r) total_is value;
-    grade = subst (has_grade r) (is ∙ grade_is) graded;
-    exact = λ small. exact (let t = total_is in let l = belief_at_most plus law (meaning_of tree p) event in omega (arith, t, l, small));
-    apart = λ h. apart (table_untouched h) (into_untouched h) (whole_sum (without_ratios (meaning_of tree p))) (total_apart h table placed.ratios.shifted totalled total_is);
+  reads t shift untouched grade is can total encloses has_grade is_exact r value = record {
+    enclosed = subst (encloses r) total (value.enclosed can.numbers can.others can.steps can.other_steps can.has can.has_others can.within);
+    grade = subst (has_grade r) (is ∙ grade_is) value.has;
+    exact = λ small.
+        let l = belief_at_most plus law (meaning_of tree p) event in
+        value.exact can.numbers can.others can.steps can.other_steps can.has can.has_others can.within (omega (arith, total, l, small));
+    apart = λ h.
+        value.apart (untouched h) (into_untouched h) can.numbers can.others can.steps can.other_steps can.has can.has_others can.within
+        (whole_sum (without_ratios (meaning_of tree p))) (total_apart h t shift (total_of plus t into event can.numbers can.others) total);
   }
+
+  pub reading_of : (grade : ℕ) → grade ≡ counted_grade → {V : Type 0} (encloses : V → ℕ → Type 0) (has_grade : V → ℕ → Type 0) (is_exact : V → Type 0) (r : V)
+      → IsTotal encloses has_grade is_exact plus table into event grade r → IsReading encloses has_grade is_exact plus tree p k event r
+  reading_of grade is encloses has_grade is_exact r value =
+      reads table placed.ratios.shifted table_untouched grade is (can_total grade is) total_is encloses has_grade is_exact r value
 
   -- ---- read in the core, where it has the event and the sums
 
@@ -355,18 +364,11 @@ module _ (plus : ℕ → ℕ → ℕ) (law : Lawful plus) (flow : FlowOf) (produ
       within = core_few grade is;
     }
 
-    pub core_reading_of : {V : Type 0} (encloses : V → ℕ → Type 0) (has_grade : V → ℕ → Type 0) (is_exact : V → Type 0) (r : V) (grade : ℕ) → grade ≡ counted_grade
-        → encloses r core_totalled → has_grade r grade → (core_totalled < number_limit → is_exact r)
-        → (is_untouched core event ≡ true → is_untouched into event ≡ true → (own : ℕ) → core_totalled ≤ own * 2 ^ (core.shift + into.shift) → own < number_limit → is_exact r)
-        → IsReading encloses has_grade is_exact plus tree p k event r
-    core_reading_of encloses has_grade is_exact r grade is value graded exact apart = record {
-      enclosed = subst (encloses r) core_total_is value;
-      grade = subst (has_grade r) (is ∙ grade_is) graded;
-      exact = λ small. exact (let t = core_total_is in let l = belief_at_most plus law (meaning_of tree p) event in omega (arith, t, l, small));
-      apart = λ h.
-          apart (core_untouched h core (ratios_in p k) core_scope_is core_placed.ratios (inner h)) (into_untouched h) (whole_sum (without_ratios (meaning_of tree p)))
-          (total_apart h core core_placed.ratios.shifted core_totalled core_total_is);
-    }
+    pub core_reading_of : (grade : ℕ) → grade ≡ counted_grade → {V : Type 0} (encloses : V → ℕ → Type 0) (has_grade : V → ℕ → Type 0) (is_exact : V → Type 0) (r : V)
+        → IsTotal encloses has_grade is_exact plus core into event grade r → IsReading encloses has_grade is_exact plus tree p k event r
+    core_reading_of grade is encloses has_grade is_exact r value =
+        reads core core_placed.ratios.shifted (λ h. core_untouched h core (ratios_in p k) core_scope_is core_placed.ratios (inner h)) grade is (core_can_total grade is) core_total_is
+        encloses has_grade is_exact r value
       where
         -- the core has the pair's variable, as it has the event
         inner : (h : IsApart (meaning_of tree p) event) → in_core tree k h.pair.variable ≡ true

@@ -1,6 +1,6 @@
 -- One table of a board is put anew: it stands in one of the five lists, and the others are as they
 -- were.
-use Rattle.std.proofs.Common.{◌≡◌, ◌≢◌, ℕ, ◌+◌, ◌-◌, ◌*◌, ◌<◌, ◌≤◌, cond, ◌⊎◌, inl, inr, List}
+use Rattle.std.proofs.Common.{◌≡◌, ◌≢◌, ℕ, ◌+◌, ◌-◌, ◌*◌, ◌<◌, ◌≤◌, cond, ltb, Bool, ◌⊎◌, inl, inr, List}
 use Rattle.std.proofs.Common.{[], ◌∷◌, zero, suc, length, take, drop}
 use Rattle.std.proofs.Common.{refl, sym, ap, subst, ◌∙◌, arith, lt-ltb, le-ltb}
 use Rattle.std.specs.Prelude.{slice_index_or, slice_set}
@@ -13,10 +13,11 @@ use Rattle.mk_propagate.specs.Flows.{no_table}
 use Rattle.mk_propagate.specs.inner.Boards.{BoardOf, part, board_of, IsBoard, core_place}
 use Rattle.mk_propagate.specs.inner.Boards.{product_place}
 use Rattle.mk_propagate.specs.inner.Boards.{message_place, table_of, core_of, product_of}
-use Rattle.mk_propagate.specs.inner.Boards.{message_of, HasClique, HasBoth}
+use Rattle.mk_propagate.specs.inner.Boards.{message_of, HasClique}
 use Rattle.mk_propagate.specs.inner.Boards.{with_table, with_core, with_product, with_upward}
-use Rattle.mk_propagate.specs.inner.Boards.{with_downward}
-use Rattle.mk_propagate.specs.inner.Boards.{with_message}
+use Rattle.mk_propagate.specs.inner.Boards.{with_downward, with_message}
+use Rattle.mk_propagate.specs.inner.Boards.{Slot, Table, Core, Product, Message, IsPut}
+use Rattle.mk_propagate.specs.inner.Boards.{place_of, HasSlot, slot_of, with_slot}
 
 -- ---- parts of a list
 
@@ -135,203 +136,85 @@ module _ (n a b : ℕ) (a_first : 1 ≤ a) (a_last : a ≤ n) (b_first : 1 ≤ b
         (part_set (4 * n - 1) (n - 1) (b - 2) i ts t e (omega arith));
   }
 
+  -- whichever way it leads
+  abbrev place_by : Bool → ℕ
+  place_by up = cond up (3 * n + (a - 2)) (4 * n - 1 + (b - 2))
+
+  abbrev StandsBy : Bool → Type 0
+  StandsBy up =
+      StandsAt n i
+      (λ s. cond up (slice_index_or s.upward (a - 2) no_table)
+      (slice_index_or s.downward (b - 2) no_table))
+      (λ s t. cond up (with_upward s a t) (with_downward s b t))
+
   pub message_stands : i ≡ message_place n a b
       → StandsAt n i (λ s. message_of s a b) (λ s t. with_message s a b t)
   message_stands e = at (cases_lt b a)
     where
-      at : ((b < a) ⊎ (a ≤ b)) → StandsAt n i (λ s. message_of s a b) (λ s t. with_message s a b t)
+      at : ((b < a) ⊎ (a ≤ b)) → StandsBy (ltb b a)
       at (inl l) =
-          let c = lt-ltb b a l in
-          let h = up_stands l (e ∙ ap (λ x. cond x (3 * n + (a - 2)) (4 * n - 1 + (b - 2))) c) in
-          record {
-            read =
-                λ ts. ap (λ x. cond x (slice_index_or (board_of n ts).upward (a - 2) no_table)
-                (slice_index_or (board_of n ts).downward (b - 2) no_table)) c ∙ h.read ts;
-            set =
-                λ ts t. h.set ts t ∙ sym (ap (λ x. cond x (with_upward (board_of n ts) a t)
-                (with_downward (board_of n ts) b t)) c);
-          }
+          let c = lt-ltb b a l in subst StandsBy (sym c) (up_stands l (e ∙ ap place_by c))
       at (inr l) =
           let c = le-ltb b a l in
-          let h = down_stands (omega (arith, l, apart))
-          (e ∙ ap (λ x. cond x (3 * n + (a - 2)) (4 * n - 1 + (b - 2))) c) in
-          record {
-            read =
-                λ ts. ap (λ x. cond x (slice_index_or (board_of n ts).upward (a - 2) no_table)
-                (slice_index_or (board_of n ts).downward (b - 2) no_table)) c ∙ h.read ts;
-            set =
-                λ ts t. h.set ts t ∙ sym (ap (λ x. cond x (with_upward (board_of n ts) a t)
-                (with_downward (board_of n ts) b t)) c);
-          }
-
-  -- it stands in the list
-  pub message_within : (ts : List TableOf) → IsBoard n ts → i ≡ message_place n a b → i < length ts
-  message_within ts is e = at (cases_lt b a)
-    where
-      at : ((b < a) ⊎ (a ≤ b)) → i < length ts
-      at (inl l) =
-          let f = e ∙ ap (λ x. cond x (3 * n + (a - 2)) (4 * n - 1 + (b - 2))) (lt-ltb b a l) in
-          omega (arith, f, is.long, is.some)
-      at (inr l) =
-          let f = e ∙ ap (λ x. cond x (3 * n + (a - 2)) (4 * n - 1 + (b - 2))) (le-ltb b a l) in
-          omega (arith, f, apart, is.long, is.some)
+          subst StandsBy (sym c) (down_stands (omega (arith, l, apart)) (e ∙ ap place_by c))
 
 -- ---- a call on one table of a list that is seen as a board
 
-module _ (n : ℕ) (ts : List TableOf) (now : BoardOf) (view : board_of n ts ≡ now)
-    (is : IsBoard n ts) where
-  -- it has a table for each clique
-  pub one_each : length now.tables ≡ n
-  one_each =
-      ap (λ (b : BoardOf). length b.tables) (sym view)
-      ∙ part_length 0 n ts (omega (arith, is.long, is.some))
+module _ {n : ℕ} {ts : List TableOf} {now : BoardOf} (is : IsBoard n ts) (view : board_of n ts ≡ now)
+  where
+    last_of : (k : ℕ) → HasClique now k → k ≤ n
+    last_of k h =
+        let one_each = ap (λ (b : BoardOf). length b.tables) (sym view)
+        ∙ part_length 0 n ts (omega (arith, is.long, is.some)) in
+        omega (arith, h.last, one_each)
 
-  pub last_of : (k : ℕ) → HasClique now k → k ≤ n
-  last_of k h = omega (arith, h.last, one_each)
+    stands : (slot : Slot) → HasSlot now slot
+        → StandsAt n (place_of n slot) (λ b. slot_of b slot) (λ b t. with_slot b slot t)
+    stands (Table k) h = table_stands n k h.first (last_of k h)
+    stands (Core k) h = core_stands n k h.first (last_of k h) (core_place n k) refl
+    stands (Product k) h = product_stands n k h.first (last_of k h) (product_place n k) refl
+    stands (Message a b) h =
+        message_stands n a b h.one.first (last_of a h.one) h.other.first (last_of b h.other) h.apart
+        (message_place n a b) refl
 
-  module _ (i : ℕ) (at : BoardOf → TableOf) (put : BoardOf → TableOf → BoardOf)
-      (stands : StandsAt n i at put) where
-    pub reads : at now ≡ slice_index_or ts i no_table
-    reads = ap at (sym view) ∙ stands.read ts
+    module _ (slot : Slot) (h : HasSlot now slot) {i : ℕ} (e : i ≡ place_of n slot) where
+      read_slot : slot_of now slot ≡ slice_index_or ts i no_table
+      read_slot =
+          ap (λ (b : BoardOf). slot_of b slot) (sym view) ∙ (stands slot h).read ts
+          ∙ ap (λ (j : ℕ). slice_index_or ts j no_table) (sym e)
 
-    -- what is known of the board's table holds of the list's, and of both at once
-    pub asked : (P : TableOf → Type 0) → P (at now) → P (slice_index_or ts i no_table)
-    asked P h = subst P reads h
+      -- what is known of the list's table holds of the board's
+      pub seen : (P : TableOf → Type 0) → P (slice_index_or ts i no_table) → P (slot_of now slot)
+      seen P h = subst P (sym read_slot) h
 
-    pub seen : (P : TableOf → Type 0) → P (slice_index_or ts i no_table) → P (at now)
-    seen P h = subst P (sym reads) h
+      -- it is put anew
+      pub puts : (new : List TableOf) → new ≡ slice_set ts i (slice_index_or new i no_table)
+          → (P : TableOf → TableOf → Type 0)
+          → P (slice_index_or ts i no_table) (slice_index_or new i no_table)
+          → IsPut P slot now (board_of n new)
+      puts new only P made =
+          let there : slot_of (board_of n new) slot ≡ slice_index_or new i no_table =
+          (stands slot h).read new ∙ ap (λ (j : ℕ). slice_index_or new j no_table) (sym e) in
+          record {
+            only =
+                ap (board_of n) (only ∙ ap (λ (j : ℕ). slice_set ts j (slice_index_or new i no_table)) e)
+                ∙ (stands slot h).set ts (slice_index_or new i no_table)
+                ∙ ap (λ (b : BoardOf). with_slot b slot (slice_index_or new i no_table)) view
+                ∙ ap (with_slot now slot) (sym there);
+            made = subst (P (slot_of now slot)) (sym there)
+                (seen (λ t. P t (slice_index_or new i no_table)) made);
+          }
 
-    -- the table is put anew
-    module _ (new : List TableOf) (only : new ≡ slice_set ts i (slice_index_or new i no_table))
-      where
-        pub only_it : board_of n new ≡ put now (at (board_of n new))
-        only_it =
-            ap (board_of n) only ∙ stands.set ts (slice_index_or new i no_table)
-            ∙ ap (λ b. put b (slice_index_or new i no_table)) view
-            ∙ ap (put now) (sym (stands.read new))
-
-        pub changed : (P : TableOf → TableOf → Type 0)
-            → P (slice_index_or ts i no_table) (slice_index_or new i no_table)
-            → P (at now) (at (board_of n new))
-        changed P h =
-            subst (P (at now)) (sym (stands.read new))
-            (seen (λ t. P t (slice_index_or new i no_table)) h)
-
--- ---- the same of each kind of table
-
-module _ (n : ℕ) (ts : List TableOf) (now : BoardOf) (view : board_of n ts ≡ now)
-    (is : IsBoard n ts) (k : ℕ) (h : HasClique now k) where
-  abbrev table_at : StandsAt n (k - 1) (λ b. table_of b k) (λ b t. with_table b k t)
-  table_at = table_stands n k h.first (last_of n ts now view is k h)
-
-  pub table_asked : (P : TableOf → Type 0) → P (table_of now k)
-      → P (slice_index_or ts (k - 1) no_table)
-  table_asked =
-      asked n ts now view is (k - 1) (λ b. table_of b k) (λ b t. with_table b k t) table_at
-
-  pub table_seen : (P : TableOf → Type 0) → P (slice_index_or ts (k - 1) no_table)
-      → P (table_of now k)
-  table_seen = seen n ts now view is (k - 1) (λ b. table_of b k) (λ b t. with_table b k t) table_at
-
-  module _ (new : List TableOf) (only : new ≡ slice_set ts (k - 1)
-      (slice_index_or new (k - 1) no_table)) where
-    pub table_only : board_of n new ≡ with_table now k (table_of (board_of n new) k)
-    table_only =
-        only_it n ts now view is (k - 1) (λ b. table_of b k) (λ b t. with_table b k t) table_at new
-        only
-
-    pub table_changed : (P : TableOf → TableOf → Type 0)
-        → P (slice_index_or ts (k - 1) no_table) (slice_index_or new (k - 1) no_table)
-        → P (table_of now k) (table_of (board_of n new) k)
-    table_changed =
-        changed n ts now view is (k - 1) (λ b. table_of b k) (λ b t. with_table b k t) table_at new
-        only
-
-  module _ (i : ℕ) (e : i ≡ core_place n k) where
-    abbrev core_at : StandsAt n i (λ b. core_of b k) (λ b t. with_core b k t)
-    core_at = core_stands n k h.first (last_of n ts now view is k h) i e
-
-    pub core_asked : (P : TableOf → Type 0) → P (core_of now k) → P (slice_index_or ts i no_table)
-    core_asked = asked n ts now view is i (λ b. core_of b k) (λ b t. with_core b k t) core_at
-
-    pub core_seen : (P : TableOf → Type 0) → P (slice_index_or ts i no_table) → P (core_of now k)
-    core_seen = seen n ts now view is i (λ b. core_of b k) (λ b t. with_core b k t) core_at
-
-    module _ (new : List TableOf) (only : new ≡ slice_set ts i (slice_index_or new i no_table))
-      where
-        pub core_only : board_of n new ≡ with_core now k (core_of (board_of n new) k)
-        core_only =
-            only_it n ts now view is i (λ b. core_of b k) (λ b t. with_core b k t) core_at new only
-
-        pub core_changed : (P : TableOf → TableOf → Type 0)
-            → P (slice_index_or ts i no_table) (slice_index_or new i no_table)
-            → P (core_of now k) (core_of (board_of n new) k)
-        core_changed =
-            changed n ts now view is i (λ b. core_of b k) (λ b t. with_core b k t) core_at new only
-
-  module _ (i : ℕ) (e : i ≡ product_place n k) where
-    abbrev product_at : StandsAt n i (λ b. product_of b k) (λ b t. with_product b k t)
-    product_at = product_stands n k h.first (last_of n ts now view is k h) i e
-
-    pub product_asked : (P : TableOf → Type 0) → P (product_of now k)
-        → P (slice_index_or ts i no_table)
-    product_asked =
-        asked n ts now view is i (λ b. product_of b k) (λ b t. with_product b k t) product_at
-
-    pub product_seen : (P : TableOf → Type 0) → P (slice_index_or ts i no_table)
-        → P (product_of now k)
-    product_seen =
-        seen n ts now view is i (λ b. product_of b k) (λ b t. with_product b k t) product_at
-
-    module _ (new : List TableOf) (only : new ≡ slice_set ts i (slice_index_or new i no_table))
-      where
-        pub product_only : board_of n new ≡ with_product now k (product_of (board_of n new) k)
-        product_only =
-            only_it n ts now view is i (λ b. product_of b k) (λ b t. with_product b k t) product_at
-            new only
-
-        pub product_changed : (P : TableOf → TableOf → Type 0)
-            → P (slice_index_or ts i no_table) (slice_index_or new i no_table)
-            → P (product_of now k) (product_of (board_of n new) k)
-        product_changed =
-            changed n ts now view is i (λ b. product_of b k) (λ b t. with_product b k t) product_at
-            new only
-
-module _ (n : ℕ) (ts : List TableOf) (now : BoardOf) (view : board_of n ts ≡ now)
-    (is : IsBoard n ts) (a b : ℕ) (h : HasBoth now a b)
-    (i : ℕ) (e : i ≡ message_place n a b) where
-  abbrev message_at : StandsAt n i (λ s. message_of s a b) (λ s t. with_message s a b t)
-  message_at =
-      message_stands n a b h.one.first (last_of n ts now view is a h.one) h.other.first
-      (last_of n ts now view is b h.other) h.apart i e
-
-  pub message_in_list : i < length ts
-  message_in_list =
-      message_within n a b h.one.first (last_of n ts now view is a h.one) h.other.first
-      (last_of n ts now view is b h.other) h.apart i ts is e
-
-  pub message_asked : (P : TableOf → Type 0) → P (message_of now a b)
-      → P (slice_index_or ts i no_table)
-  message_asked =
-      asked n ts now view is i (λ s. message_of s a b) (λ s t. with_message s a b t) message_at
-
-  pub message_seen : (P : TableOf → Type 0) → P (slice_index_or ts i no_table)
-      → P (message_of now a b)
-  message_seen =
-      seen n ts now view is i (λ s. message_of s a b) (λ s t. with_message s a b t) message_at
-
-  module _ (new : List TableOf) (only : new ≡ slice_set ts i (slice_index_or new i no_table)) where
-    pub message_only : board_of n new ≡ with_message now a b (message_of (board_of n new) a b)
-    message_only =
-        only_it n ts now view is i (λ s. message_of s a b) (λ s t. with_message s a b t) message_at
-        new only
-
-    pub message_changed : (P : TableOf → TableOf → Type 0)
-        → P (slice_index_or ts i no_table) (slice_index_or new i no_table)
-        → P (message_of now a b) (message_of (board_of n new) a b)
-    message_changed =
-        changed n ts now view is i (λ s. message_of s a b) (λ s t. with_message s a b t) message_at
-        new only
+    -- so too where another table says what it is made of
+    pub puts_of : (from : Slot) → HasSlot now from → {j : ℕ} → j ≡ place_of n from → (slot : Slot)
+        → HasSlot now slot → {i : ℕ} → i ≡ place_of n slot → (new : List TableOf)
+        → new ≡ slice_set ts i (slice_index_or new i no_table)
+        → (Q : TableOf → TableOf → TableOf → Type 0)
+        → Q (slice_index_or ts j no_table) (slice_index_or ts i no_table)
+        (slice_index_or new i no_table) → IsPut (Q (slot_of now from)) slot now (board_of n new)
+    puts_of from is_there {j} f slot h e new only Q made =
+        seen from is_there f (λ t. IsPut (Q t) slot now (board_of n new))
+        (puts slot h e new only (Q (slice_index_or ts j no_table)) made)
 
 -- ---- boards
 

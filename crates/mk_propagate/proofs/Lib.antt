@@ -5,6 +5,7 @@ pub mod Calls
 pub mod Order
 pub mod Passed
 pub mod Passes
+pub mod Passing
 pub mod Margins
 pub mod Inputs
 pub mod Ratios

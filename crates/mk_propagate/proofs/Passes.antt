@@ -3,12 +3,12 @@ use Rattle.std.proofs.Common.{◌≡◌, ◌≢◌, ℕ, ◌+◌, ◌-◌, ◌<�
 use Rattle.std.proofs.lemmas.Bool.{cases_eq, both_ways}
 use Rattle.mk_tree.specs.Given.{GivenTree}
 use Rattle.mk_tree.specs.Given as given
-use Rattle.mk_plan.specs.Shapes.{ShapeOf, IsClique, next_on_way, are_linked}
+use Rattle.mk_plan.specs.Shapes.{IsClique, next_on_way, are_linked}
 use Rattle.mk_propagate.specs.Placings.{Placing}
-use Rattle.mk_propagate.specs.Flows.{FlowOf, HasPlaced, IsRight, KeepsTables, counted_on, AreRightTowards, AreAllRight, CanSend, separators_of}
+use Rattle.mk_propagate.specs.Flows.{FlowOf, HasPlaced, IsRight, KeepsTables, counted_on, AreRightTowards, AreAllRight, CanSend}
 use Rattle.mk_propagate.specs.inner.Passes.{leads_up, leads_down, count_of, AreRightFrom, AreRightTo}
-use Rattle.mk_propagate.proofs.Order.{IsInput, input_up, input_down, up_parts, down_parts, up_or_down, away_down, away_up, count_more, count_same, one_less, one_way}
-use Rattle.mk_propagate.proofs.Passed.{IsSent, IsCollecting, IsDistributing, can_collect, collecting_more, can_distribute, distributing_more, tree_kept, counted_none, counted_both}
+use Rattle.mk_propagate.proofs.Order.{IsInput, input_up, input_down, up_parts, down_parts, up_or_down, away_down, away_up, count_more, count_same, one_way}
+use Rattle.mk_propagate.proofs.Passed.{IsSent, IsCollecting, IsDistributing, can_collect, collecting_more, can_distribute, distributing_more, tree_kept, counted_none}
 
 -- no test of the past is asked
 abbrev pub Always : Placing → Type 0
@@ -133,9 +133,9 @@ module _ (plus : ℕ → ℕ → ℕ) (start : FlowOf) (tied : given.AreLinked s
       }
 
   pub collect_back_right : (now : FlowOf) (left : ℕ) → left ≡ 0 → CollectsBack plus start now root left → (p : Placing) → HasPlaced plus start p
-      → AreRightFrom plus now p root (λ k. leads_up start.shape.tree root k ≡ true)
+      → AreRightFrom plus now p root (λ k. leads_up now.shape.tree root k ≡ true)
   collect_back_right now left e h p has =
-      subst (λ (t : GivenTree). (k : ℕ) → IsClique t k → leads_up start.shape.tree root k ≡ true → IsRight plus now p k (next_on_way t k root)) (sym (tree_kept plus start now h.so_far.kept))
+      subst (λ (t : GivenTree). (k : ℕ) → IsClique t k → leads_up t root k ≡ true → IsRight plus now p k (next_on_way t k root)) (sym (tree_kept plus start now h.so_far.kept))
       (λ k at u. h.so_far.right p has tt k at (omega (arith, e, at.first), u))
 
   -- ---- its second
@@ -233,9 +233,9 @@ module _ (plus : ℕ → ℕ → ℕ) (start : FlowOf) (tied : given.AreLinked s
       }
 
   pub distribute_back_right : (now : FlowOf) (left : ℕ) → left ≡ 0 → DistributesBack plus start now root left → (p : Placing) → HasPlaced plus start p → AreRightTowards plus start p root
-      → AreRightTo plus now p root (λ k. leads_down start.shape.tree root k ≡ true)
+      → AreRightTo plus now p root (λ k. leads_down now.shape.tree root k ≡ true)
   distribute_back_right now left e h p has b =
-      subst (λ (t : GivenTree). (k : ℕ) → IsClique t k → leads_down start.shape.tree root k ≡ true → IsRight plus now p (next_on_way t k root) k) (sym (tree_kept plus start now h.so_far.kept))
+      subst (λ (t : GivenTree). (k : ℕ) → IsClique t k → leads_down t root k ≡ true → IsRight plus now p (next_on_way t k root) k) (sym (tree_kept plus start now h.so_far.kept))
       (λ k at u. h.so_far.right p has b k at (omega (arith, e, at.first), u))
 
   pub still_towards : (now : FlowOf) (left : ℕ) → DistributesBack plus start now root left → (p : Placing) → HasPlaced plus start p → AreRightTowards plus start p root → AreRightTowards plus now p root
@@ -302,59 +302,3 @@ module _ (plus : ℕ → ℕ → ℕ) (start : FlowOf) (tied : given.AreLinked s
           (i ≡ next_on_way start.shape.tree j root)) → IsRight plus now p i j
       way i j (inl o) = subst (λ (t : ℕ). IsRight plus now p i t) (sym o.2) (h.towards p has (b, b2) i o.0 o.1)
       way i j (inr o) = subst (λ (t : ℕ). IsRight plus now p t j) (sym o.2) (h.right p has (b, b2) j o.0 (either j o.0 (up_or_down start.shape.tree tied root at_root j o.0 o.1)))
-
--- a pass over the cliques of a flow, of which there are `count`
-pub record IsPassOver (start : FlowOf) (root count : ℕ) : Type 0 where
-  pub tied : given.AreLinked start.shape.tree
-  pub many : count ≡ length start.shape.tree.cliques
-  pub at_root : IsClique start.shape.tree root
-
-pub pass_over : (start : FlowOf) (root count : ℕ) (shape : ShapeOf) → shape ≡ start.shape → given.AreLinked shape.tree
-    → count ≡ length shape.tree.cliques → IsClique start.shape.tree root → IsPassOver start root count
-pass_over start root count shape same tied many at_root = record {
-  tied = subst (λ (s : ShapeOf). given.AreLinked s.tree) same tied;
-  many = many ∙ ap (λ (s : ShapeOf). length s.tree.cliques) same;
-  at_root = at_root;
-}
-
--- the clique that it comes to, backwards and onwards
-pub back_clique : (start : FlowOf) (root count : ℕ) → IsPassOver start root count → (passed : ℕ) → passed < count → IsClique start.shape.tree (count - passed)
-back_clique start root count pass passed more = record { first = omega (arith, more); last = omega (arith, more, pass.many) }
-
-pub on_clique : (start : FlowOf) (root count : ℕ) → IsPassOver start root count → (passed : ℕ) → passed < count → IsClique start.shape.tree (passed + 1)
-on_clique start root count pass passed more = record { first = omega (arith, more); last = omega (arith, more, pass.many) }
-
--- a test and a next clique that were read of a shape that is equal to the one at the start
-module _ (start seen : ShapeOf) (same : seen ≡ start) (root k : ℕ) where
-  pub up_seen : (test value : Bool) → test ≡ leads_up seen.tree root k → test ≡ value → leads_up start.tree root k ≡ value
-  up_seen test value h e = ap (λ (s : ShapeOf). leads_up s.tree root k) (sym same) ∙ sym h ∙ e
-
-  pub down_seen : (test value : Bool) → test ≡ leads_down seen.tree root k → test ≡ value → leads_down start.tree root k ≡ value
-  down_seen test value h e = ap (λ (s : ShapeOf). leads_down s.tree root k) (sym same) ∙ sym h ∙ e
-
-  pub next_seen : (to : ℕ) → to ≡ next_on_way seen.tree k root → to ≡ next_on_way start.tree k root
-  next_seen to h = h ∙ ap (λ (s : ShapeOf). next_on_way s.tree k root) same
-
-  pub clique_seen : IsClique start.tree k → IsClique seen.tree k
-  clique_seen is = subst (λ (s : ShapeOf). IsClique s.tree k) (sym same) is
-
--- two passes make a message over each link
-module _ (plus : ℕ → ℕ → ℕ) (old mid : FlowOf) (kept : KeepsTables plus old mid) (tied : given.AreLinked old.shape.tree) (root : ℕ) (at_root : IsClique old.shape.tree root) (computed : ℕ) where
-  pub counted_up_down : mid.computed ≡ counted_on old.computed (count_of (leads_up old.shape.tree root) (length old.shape.tree.cliques))
-      → computed ≡ counted_on mid.computed (count_of (leads_down mid.shape.tree root) (length mid.shape.tree.cliques)) → computed ≡ counted_on old.computed (separators_of old.shape.tree)
-  counted_up_down e f =
-      counted_both old.computed mid.computed computed (count_of (leads_up old.shape.tree root) (length old.shape.tree.cliques)) (count_of
-      (leads_down old.shape.tree root) (length old.shape.tree.cliques)) e
-      (f ∙ ap (λ (t : GivenTree). counted_on mid.computed (count_of (leads_down t root) (length t.cliques))) (tree_kept plus old mid kept))
-      ∙ ap (counted_on old.computed) (one_less old.shape.tree tied root at_root)
-
-  pub counted_down_up : mid.computed ≡ counted_on old.computed (count_of (leads_down old.shape.tree root) (length old.shape.tree.cliques))
-      → computed ≡ counted_on mid.computed (count_of (leads_up mid.shape.tree root) (length mid.shape.tree.cliques)) → computed ≡ counted_on old.computed (separators_of old.shape.tree)
-  counted_down_up e f =
-      let n = one_less old.shape.tree tied root at_root in
-      let m : count_of (leads_down old.shape.tree root) (length old.shape.tree.cliques) + count_of (leads_up old.shape.tree root)
-      (length old.shape.tree.cliques) ≡ length old.shape.tree.cliques - 1 = omega (arith, n) in
-      counted_both old.computed mid.computed computed (count_of (leads_down old.shape.tree root) (length old.shape.tree.cliques)) (count_of
-      (leads_up old.shape.tree root) (length old.shape.tree.cliques)) e
-      (f ∙ ap (λ (t : GivenTree). counted_on mid.computed (count_of (leads_up t root) (length t.cliques))) (tree_kept plus old mid kept))
-      ∙ ap (counted_on old.computed) m

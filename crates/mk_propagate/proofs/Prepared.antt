@@ -10,11 +10,11 @@ use Rattle.mk_scope.specs.Cells.{cell_in}
 use Rattle.mk_table.specs.Tables.{TableOf, HasNumbers, HasRoom}
 use Rattle.mk_table.specs.Ratios.{KeepsPairs}
 use Rattle.mk_tree.specs.Given.{link_of}
-use Rattle.mk_plan.specs.Shapes.{ShapeOf, IsShapeFor, IsClique, are_linked as is_linked, core_scope, separator_scope, separator_between, neighbours}
+use Rattle.mk_plan.specs.Shapes.{ShapeOf, IsShapeFor, IsClique, are_linked as is_linked, clique_scope, core_scope, separator_scope, separator_between, neighbours}
 use Rattle.mk_propagate.specs.Placings.{Placing, IsPlacing}
 use Rattle.mk_propagate.specs.Flows.{HasSums}
 use Rattle.mk_propagate.specs.inner.Gathered.{is_taken, message_in, IsRightIn, CanTake, HasGathered, HasInto, IsGathering, IsMargin, IsPlacedIn}
-use Rattle.mk_propagate.specs.inner.Boards.{BoardOf, IsOver, HasBoth}
+use Rattle.mk_propagate.specs.inner.Boards.{BoardOf, IsOver, HasBoth, CanSumCore, table_of, core_of, places_of}
 use Rattle.mk_propagate.proofs.Messages.{are_ends, core_sums, none_gathered, whole_room, put_back, back_room}
 
 -- two cliques that are linked are cliques of a board over the shape
@@ -27,6 +27,14 @@ both_there shape board p fits placing over a b l =
       other = record { first = e.1.first; last = omega (arith, e.1.last, over) };
       apart = e.2;
     }
+
+-- the shape has the places of a clique's core in its table
+pub core_places_there : (shape : ShapeOf) (board : BoardOf) (k : ℕ) → CanSumCore shape board k
+    → (places : PlacesOf) → places ≡ record { whole = clique_scope shape k; part = core_scope shape k }
+    → places ≡ places_of (table_of board k) (core_of board k)
+core_places_there shape board k can places e =
+    e ∙ ap (λ (s : ScopeOf). record { whole = s; part = core_scope shape k }) (sym can.of_table)
+    ∙ ap (λ (s : ScopeOf). record { whole = (table_of board k).scope; part = s }) (sym can.of_core)
 
 -- the shape has its places in what is gathered so far
 pub places_there : (plus : ℕ → ℕ → ℕ) (shape : ShapeOf) (k i : ℕ) (p : Placing) (old message : TableOf) → old.scope ≡ core_scope shape k

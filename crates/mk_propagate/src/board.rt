@@ -1,22 +1,18 @@
 //! All tables of a flow, in one piece.
 
-ghost use Rattle.std.specs.Prelude.{◌≡◌, ℕ, ◌+◌, ◌-◌, ◌*◌, ◌^◌, ◌<◌, ◌≤◌, ◌≢◌, true};
-ghost use Rattle.std.specs.Prelude.{All, IfOk, length};
-ghost use Rattle.mk_net.specs.Asked.{ratio_pairs};
+ghost use Rattle.std.specs.Prelude.{◌≡◌, ◌+◌, ◌-◌, ◌*◌, ◌≤◌, ◌≢◌, true, IfOk, length};
 ghost use Rattle.mk_net.specs.Bounds.{max_clique_cells};
-ghost use Rattle.mk_net.specs.Named.{variable_at};
 ghost use Rattle.mk_net.specs.Trades.{trade_ratio};
 ghost use Rattle.mk_enclose.specs.Enclosure.{widest_grade};
-ghost use Rattle.mk_scope.specs.Scopes.{HasEvent, HasOneEach, HasSized, cells_in, has_variable};
+ghost use Rattle.mk_scope.specs.Scopes.{HasEvent, cells_in, has_variable};
 ghost use Rattle.mk_table.specs.Tables.{HasRoom};
 ghost use Rattle.mk_engine.specs.Meaning.{RowsOf, SupportOf};
 ghost use Rattle.mk_tree.specs.Given.{max_tree_cliques};
 ghost use Rattle.mk_propagate.specs.inner.Boards.{HasClique, HasBoth, table_of, core_of};
-ghost use Rattle.mk_propagate.specs.inner.Boards.{product_of};
-ghost use Rattle.mk_propagate.specs.inner.Boards.{message_of, with_table, with_core, with_product};
-ghost use Rattle.mk_propagate.specs.inner.Boards.{with_message, core_place, product_place};
-ghost use Rattle.mk_propagate.specs.inner.Boards.{places_of, CanSum};
-ghost use Rattle.mk_propagate.specs.inner.Boards.{message_place};
+ghost use Rattle.mk_propagate.specs.inner.Boards.{product_of, message_of, places_of, CanSum};
+ghost use Rattle.mk_propagate.specs.inner.Boards.{core_place, product_place, message_place};
+ghost use Rattle.mk_propagate.specs.inner.Boards.{Table, Core, Product, Message, IsPut};
+ghost use Rattle.mk_propagate.specs.inner.Boards.{HasFamily, HasRatio};
 ghost use Rattle.mk_propagate.specs.inner.Changes.{IsTimesFactor, IsTimesRatio, IsRestricted};
 ghost use Rattle.mk_propagate.specs.inner.Changes.{IsCleared, IsMarginAgain};
 ghost use Rattle.mk_propagate.specs.inner.Gathered.{IsMargin, IsMarginOfProduct, IsMessageAlone};
@@ -75,14 +71,8 @@ impl<R: Semiring> Board<R> {
     /// Multiplies a clique's table by the rows of a variable.
     pub(crate) fn times_rows(&mut self, clique: u32, net: &Network, variable: u32)
         requires clique { HasClique self.old clique }
-        requires variable { variable < length net.now }
-        requires family { HasSized net.now (table_of self.old clique).scope variable }
-        requires parents { All (HasSized net.now (table_of self.old clique).scope)
-            (variable_at net.now variable).parents }
-        requires room { HasRoom (table_of self.old clique) 1 }
-        ensures only { self.new ≡ with_table self.old clique (table_of self.new clique) }
-        ensures times { IsTimesFactor net.now (RowsOf variable) (table_of self.old clique)
-            (table_of self.new clique) }
+        requires family { HasFamily net.now variable (table_of self.old clique) }
+        ensures { IsPut (IsTimesFactor net.now (RowsOf variable)) (Table clique) self.old self.new }
     {
         self.tables.times_rows(clique as usize - 1, net, variable);
     }
@@ -90,14 +80,8 @@ impl<R: Semiring> Board<R> {
     /// Multiplies a clique's table by the support of a variable's rows.
     pub(crate) fn times_support(&mut self, clique: u32, net: &Network, variable: u32)
         requires clique { HasClique self.old clique }
-        requires variable { variable < length net.now }
-        requires family { HasSized net.now (table_of self.old clique).scope variable }
-        requires parents { All (HasSized net.now (table_of self.old clique).scope)
-            (variable_at net.now variable).parents }
-        requires room { HasRoom (table_of self.old clique) 1 }
-        ensures only { self.new ≡ with_table self.old clique (table_of self.new clique) }
-        ensures times { IsTimesFactor net.now (SupportOf variable) (table_of self.old clique)
-            (table_of self.new clique) }
+        requires family { HasFamily net.now variable (table_of self.old clique) }
+        ensures { IsPut (IsTimesFactor net.now (SupportOf variable)) (Table clique) self.old self.new }
     {
         self.tables
             .times_support(clique as usize - 1, net, variable);
@@ -106,13 +90,8 @@ impl<R: Semiring> Board<R> {
     /// Multiplies a clique's table by a ratio.
     pub(crate) fn times_ratio(&mut self, clique: u32, ratio: &Ratio, chosen: &mut CellList)
         requires clique { HasClique self.old clique }
-        requires event { HasEvent (table_of self.old clique).scope
-            (ratio_pairs (trade_ratio ratio.now)) }
-        requires one_each { HasOneEach (table_of self.old clique).scope (trade_ratio ratio.now) }
-        requires room { HasRoom (table_of self.old clique) 1 }
-        ensures only { self.new ≡ with_table self.old clique (table_of self.new clique) }
-        ensures times { IsTimesRatio (trade_ratio ratio.now) (table_of self.old clique)
-            (table_of self.new clique) }
+        requires ratio { HasRatio (trade_ratio ratio.now) (table_of self.old clique) }
+        ensures { IsPut (IsTimesRatio (trade_ratio ratio.now)) (Table clique) self.old self.new }
     {
         self.tables.times_ratio(clique as usize - 1, ratio, chosen);
     }
@@ -121,8 +100,7 @@ impl<R: Semiring> Board<R> {
     pub(crate) fn restrict(&mut self, clique: u32, pair: Pair)
         requires clique { HasClique self.old clique }
         requires variable { has_variable (table_of self.old clique).scope pair.variable ≡ true }
-        ensures only { self.new ≡ with_table self.old clique (table_of self.new clique) }
-        ensures restricted { IsRestricted pair (table_of self.old clique) (table_of self.new clique) }
+        ensures { IsPut (IsRestricted pair) (Table clique) self.old self.new }
     {
         self.tables.restrict(clique as usize - 1, pair);
     }
@@ -133,9 +111,8 @@ impl<R: Semiring> Board<R> {
         requires places { places.now ≡ places_of (table_of self.old clique)
             (core_of self.old clique) }
         requires room { CanSum (table_of self.old clique) }
-        ensures only { self.new ≡ with_core self.old clique (core_of self.new clique) }
-        ensures margin { IsMargin R.plus_of (table_of self.old clique) (core_of self.old clique)
-            (core_of self.new clique) }
+        ensures { IsPut (IsMargin R.plus_of (table_of self.old clique)) (Core clique)
+            self.old self.new }
     {
         let core = core_place(self.cliques, clique);
         self.tables.margin_into(clique as usize - 1, places, core);
@@ -153,9 +130,8 @@ impl<R: Semiring> Board<R> {
         requires places { places.now ≡ places_of (table_of self.old clique)
             (core_of self.old clique) }
         requires room { CanSum (table_of self.old clique) }
-        ensures only { self.new ≡ with_core self.old clique (core_of self.new clique) }
-        ensures again { IsMarginAgain R.plus_of event.now (table_of self.old clique)
-            (core_of self.old clique) (core_of self.new clique) }
+        ensures { IsPut (IsMarginAgain R.plus_of event.now (table_of self.old clique)) (Core clique)
+            self.old self.new }
     {
         let core = core_place(self.cliques, clique);
         // The proof learns that the core's table has a place for each cell of its scope.
@@ -167,13 +143,8 @@ impl<R: Semiring> Board<R> {
     /// Multiplies the sums over a core by a ratio.
     pub(crate) fn core_times_ratio(&mut self, clique: u32, ratio: &Ratio, chosen: &mut CellList)
         requires clique { HasClique self.old clique }
-        requires event { HasEvent (core_of self.old clique).scope
-            (ratio_pairs (trade_ratio ratio.now)) }
-        requires one_each { HasOneEach (core_of self.old clique).scope (trade_ratio ratio.now) }
-        requires room { HasRoom (core_of self.old clique) 1 }
-        ensures only { self.new ≡ with_core self.old clique (core_of self.new clique) }
-        ensures times { IsTimesRatio (trade_ratio ratio.now) (core_of self.old clique)
-            (core_of self.new clique) }
+        requires ratio { HasRatio (trade_ratio ratio.now) (core_of self.old clique) }
+        ensures { IsPut (IsTimesRatio (trade_ratio ratio.now)) (Core clique) self.old self.new }
     {
         let core = core_place(self.cliques, clique);
         self.tables.times_ratio(core, ratio, chosen);
@@ -184,9 +155,8 @@ impl<R: Semiring> Board<R> {
         requires both { HasBoth self.old neighbour clique }
         requires places { places.now ≡ places_of (product_of self.old clique)
             (message_of self.old neighbour clique) }
-        ensures only { self.new ≡ with_product self.old clique (product_of self.new clique) }
-        ensures alone { IsMessageAlone (message_of self.old neighbour clique)
-            (product_of self.old clique) (product_of self.new clique) }
+        ensures { IsPut (IsMessageAlone (message_of self.old neighbour clique)) (Product clique)
+            self.old self.new }
     {
         let product = product_place(self.cliques, clique);
         let message = message_place(self.cliques, neighbour, clique);
@@ -200,9 +170,8 @@ impl<R: Semiring> Board<R> {
             (message_of self.old neighbour clique) }
         requires room { HasRoom (product_of self.old clique) 1 }
         requires message_room { HasRoom (message_of self.old neighbour clique) 1 }
-        ensures only { self.new ≡ with_product self.old clique (product_of self.new clique) }
-        ensures times { IsTimesMessage (message_of self.old neighbour clique)
-            (product_of self.old clique) (product_of self.new clique) }
+        ensures { IsPut (IsTimesMessage (message_of self.old neighbour clique)) (Product clique)
+            self.old self.new }
     {
         let product = product_place(self.cliques, clique);
         let message = message_place(self.cliques, neighbour, clique);
@@ -212,8 +181,7 @@ impl<R: Semiring> Board<R> {
     /// Makes each cell of a clique's product 1.
     pub(crate) fn clear_product(&mut self, clique: u32)
         requires { HasClique self.old clique }
-        ensures only { self.new ≡ with_product self.old clique (product_of self.new clique) }
-        ensures cleared { IsCleared (product_of self.old clique) (product_of self.new clique) }
+        ensures { IsPut IsCleared (Product clique) self.old self.new }
     {
         let product = product_place(self.cliques, clique);
         self.tables.clear(product);
@@ -225,9 +193,8 @@ impl<R: Semiring> Board<R> {
         requires places { places.now ≡ places_of (core_of self.old from)
             (message_of self.old from to) }
         requires room { CanSum (core_of self.old from) }
-        ensures only { self.new ≡ with_message self.old from to (message_of self.new from to) }
-        ensures margin { IsMargin R.plus_of (core_of self.old from) (message_of self.old from to)
-            (message_of self.new from to) }
+        ensures { IsPut (IsMargin R.plus_of (core_of self.old from)) (Message from to)
+            self.old self.new }
     {
         let core = core_place(self.cliques, from);
         let message = message_place(self.cliques, from, to);
@@ -242,9 +209,8 @@ impl<R: Semiring> Board<R> {
         requires own { own.now ≡ places_of (core_of self.old from) (product_of self.old from) }
         requires room { CanSum (core_of self.old from) }
         requires product_room { HasRoom (product_of self.old from) 1 }
-        ensures only { self.new ≡ with_message self.old from to (message_of self.new from to) }
-        ensures margin { IsMarginOfProduct R.plus_of (core_of self.old from)
-            (product_of self.old from) (message_of self.old from to) (message_of self.new from to) }
+        ensures { IsPut (IsMarginOfProduct R.plus_of (core_of self.old from) (product_of self.old from))
+            (Message from to) self.old self.new }
     {
         let core = core_place(self.cliques, from);
         let product = product_place(self.cliques, from);

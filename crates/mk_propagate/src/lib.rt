@@ -6,6 +6,7 @@ mod collect;
 mod flow;
 mod gathered;
 mod message;
+mod pass;
 mod read;
 mod sums;
 

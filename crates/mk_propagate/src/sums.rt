@@ -1,14 +1,14 @@
 //! What is placed in a clique, summed over its core.
 
-ghost use Rattle.std.specs.Prelude.{◌≡◌, ◌+◌, ◌*◌, List, true};
+ghost use Rattle.std.specs.Prelude.{◌≡◌, ◌+◌, List, true};
 ghost use Rattle.mk_net.specs.Network.{Variable};
 ghost use Rattle.mk_net.specs.Trades.{trade_ratio};
 ghost use Rattle.mk_table.specs.Tables.{HasRoom};
 ghost use Rattle.mk_engine.specs.Meaning.{RatioOf};
-ghost use Rattle.mk_plan.specs.Shapes.{IsShapeFor, IsClique, clique_scope, core_scope};
+ghost use Rattle.mk_plan.specs.Shapes.{IsShapeFor};
 ghost use Rattle.mk_propagate.specs.Placings.{Placing, IsPlacedFactor};
 ghost use Rattle.mk_propagate.specs.Flows.{HasSums};
-ghost use Rattle.mk_propagate.specs.inner.Boards.{IsOver, CanSum, table_of, core_of, with_core};
+ghost use Rattle.mk_propagate.specs.inner.Boards.{CanSumCore, table_of, core_of, with_core};
 ghost use Rattle.mk_propagate.specs.inner.Gathered.{IsFollowed, IsPlacedIn};
 
 use crate::board::Board;
@@ -24,11 +24,7 @@ pub(crate) fn sum_core<R: Semiring>(
     shape: &Shape,
     clique: u32,
 )
-    requires clique { IsClique shape.now.tree clique }
-    requires over { IsOver shape.now board.old }
-    requires core_scope { (core_of board.old clique).scope ≡ core_scope shape.now clique }
-    requires table_scope { (table_of board.old clique).scope ≡ clique_scope shape.now clique }
-    requires room { CanSum (table_of board.old clique) }
+    requires can { CanSumCore shape.now board.old clique }
     requires shift { summed.old ≡ true
         → (core_of board.old clique).shift ≡ (table_of board.old clique).shift }
     ensures only { board.new ≡ with_core board.old clique (core_of board.new clique) }
@@ -45,7 +41,9 @@ pub(crate) fn sum_core<R: Semiring>(
     }
 }
 
-/// Brings the sums over a core up to date with a ratio by which the clique's table was multiplied, where they were made.
+/// Brings the sums over a core up to date with a ratio by which the clique's table was multiplied, where they were made. A ratio of
+/// the core's own variables goes out of each sum, so that it multiplies them. Any other changes the sums that its condition allows;
+/// where it has none, it changes all, and they wait until they are needed.
 pub(crate) fn follow<R: Semiring>(
     board: &mut Board<R>,
     summed: &mut bool,
@@ -54,11 +52,7 @@ pub(crate) fn follow<R: Semiring>(
     ratio: &Ratio,
     chosen: &mut CellList,
 )
-    requires clique { IsClique shape.now.tree clique }
-    requires over { IsOver shape.now board.old }
-    requires core_scope { (core_of board.old clique).scope ≡ core_scope shape.now clique }
-    requires table_scope { (table_of board.old clique).scope ≡ clique_scope shape.now clique }
-    requires room { CanSum (table_of board.old clique) }
+    requires can { CanSumCore shape.now board.old clique }
     requires core_room { summed.old ≡ true → HasRoom (core_of board.old clique) 1 }
     requires shift { summed.old ≡ true
         → (table_of board.old clique).shift ≡ (core_of board.old clique).shift + 40 }
@@ -74,39 +68,9 @@ pub(crate) fn follow<R: Semiring>(
         → IsFollowed R.plus_of shape.now clique (trade_ratio ratio.now) (table_of board.old clique)
         (core_of board.old clique) (core_of board.new clique) }
 {
-    if *summed {
-        update(board, summed, shape, clique, ratio, chosen);
+    if !*summed {
+        return;
     }
-}
-
-/// Does so for sums that were made. A ratio of the core's own variables goes out of each sum, so that it multiplies them. Any other
-/// changes the sums that its condition allows; where it has none, it changes all, and they wait until they are needed.
-fn update<R: Semiring>(
-    board: &mut Board<R>,
-    summed: &mut bool,
-    shape: &Shape,
-    clique: u32,
-    ratio: &Ratio,
-    chosen: &mut CellList,
-)
-    requires clique { IsClique shape.now.tree clique }
-    requires over { IsOver shape.now board.old }
-    requires core_scope { (core_of board.old clique).scope ≡ core_scope shape.now clique }
-    requires table_scope { (table_of board.old clique).scope ≡ clique_scope shape.now clique }
-    requires room { CanSum (table_of board.old clique) }
-    requires core_room { HasRoom (core_of board.old clique) 1 }
-    requires shift { (table_of board.old clique).shift ≡ (core_of board.old clique).shift + 40 }
-    requires fits { (network : List Variable) × IsShapeFor shape.now network
-        × IsPlacedFactor network shape.now.tree
-        (record { clique = clique; factor = RatioOf (trade_ratio ratio.now) }) }
-    ensures only { board.new ≡ with_core board.old clique (core_of board.new clique) }
-    ensures scope { (core_of board.new clique).scope ≡ (core_of board.old clique).scope }
-    ensures shift { summed.new ≡ true
-        → (core_of board.new clique).shift ≡ (table_of board.old clique).shift }
-    ensures followed { summed.new ≡ true
-        → IsFollowed R.plus_of shape.now clique (trade_ratio ratio.now) (table_of board.old clique)
-        (core_of board.old clique) (core_of board.new clique) }
-{
     if shape.core_holds(clique, &ratio.event()) {
         board.core_times_ratio(clique, ratio, chosen);
     } else if ratio.condition.pairs().is_empty() {

@@ -1,10 +1,12 @@
 -- The passes in which messages are made: those from a clique to its link, or from it to its child, on the way to a clique.
-use Rattle.std.specs.Prelude.{◌≡◌, ℕ, Bool, true, ◌&&◌, not, ◌==◌, nat_lt}
+use Rattle.std.specs.Prelude.{◌≡◌, ℕ, ◌+◌, ◌-◌, Bool, true, ◌&&◌, not, ◌==◌, nat_lt, ⊤}
 use Rattle.mk_sums.specs.Trees.{sum_of}
 use Rattle.mk_tree.specs.Given.{GivenTree}
 use Rattle.mk_plan.specs.Shapes.{IsClique, next_on_way}
 use Rattle.mk_propagate.specs.Placings.{Placing}
-use Rattle.mk_propagate.specs.Flows.{FlowOf, HasPlaced, IsRight, AreRightTowards}
+use Rattle.mk_propagate.specs.Flows.{FlowOf, HasPlaced, IsRight, AreRightTowards, AreAllRight}
+use Rattle.mk_propagate.specs.declared.pass.Pass.{Pass}
+use Rattle.mk_propagate.specs.declared.pass.Pass.TheVariants.{CollectUp, CollectDown, DistributeUp, DistributeDown}
 
 -- the way from clique k to the root begins upward, to its link
 abbrev pub leads_up : GivenTree → ℕ → ℕ → Bool
@@ -26,17 +28,46 @@ AreRightFrom plus flow p root of_these = (k : ℕ) → IsClique flow.shape.tree 
 abbrev pub AreRightTo : (ℕ → ℕ → ℕ) → FlowOf → Placing → ℕ → (ℕ → Type 0) → Type 0
 AreRightTo plus flow p root of_these = (k : ℕ) → IsClique flow.shape.tree k → of_these k → IsRight plus flow p (next_on_way flow.shape.tree k root) k
 
--- the messages upward are right, so that those downward can be made
-pub record CanCollectDown (plus : ℕ → ℕ → ℕ) (flow : FlowOf) (root : ℕ) : Type 0 where
-  pub placing : Placing
-  pub has : HasPlaced plus flow placing
-  pub clique_is : IsClique flow.shape.tree root
-  pub right : AreRightFrom plus flow placing root (λ k. leads_up flow.shape.tree root k ≡ true)
+-- ---- one pass
 
--- the messages towards the root are right, and those to cliques whose way to the root begins downward
-pub record CanDistributeDown (plus : ℕ → ℕ → ℕ) (flow : FlowOf) (root : ℕ) : Type 0 where
+-- a pass makes a message between clique k and the next one on the way to the root
+abbrev pub leads_in : Pass → GivenTree → ℕ → ℕ → Bool
+leads_in CollectUp tree root k = leads_up tree root k
+leads_in CollectDown tree root k = leads_down tree root k
+leads_in DistributeUp tree root k = leads_down tree root k
+leads_in DistributeDown tree root k = leads_up tree root k
+
+-- from which of the two to which
+abbrev pub ends_in : Pass → ℕ → ℕ → ℕ × ℕ
+ends_in CollectUp k next = (k, next)
+ends_in CollectDown k next = (k, next)
+ends_in DistributeUp k next = (next, k)
+ends_in DistributeDown k next = (next, k)
+
+-- the clique that it comes to after some
+abbrev pub clique_in : Pass → ℕ → ℕ → ℕ
+clique_in CollectUp count passed = count - passed
+clique_in CollectDown count passed = passed + 1
+clique_in DistributeUp count passed = count - passed
+clique_in DistributeDown count passed = passed + 1
+
+-- the messages that are right before it
+abbrev pub IsBefore : (ℕ → ℕ → ℕ) → Pass → FlowOf → Placing → ℕ → Type 0
+IsBefore plus CollectUp flow p root = ⊤
+IsBefore plus CollectDown flow p root = AreRightFrom plus flow p root (λ k. leads_up flow.shape.tree root k ≡ true)
+IsBefore plus DistributeUp flow p root = AreRightTowards plus flow p root
+IsBefore plus DistributeDown flow p root =
+    AreRightTowards plus flow p root × AreRightTo plus flow p root (λ k. leads_down flow.shape.tree root k ≡ true)
+
+-- and after it
+abbrev pub IsAfter : (ℕ → ℕ → ℕ) → Pass → FlowOf → Placing → ℕ → Type 0
+IsAfter plus CollectUp flow p root = IsBefore plus CollectDown flow p root
+IsAfter plus CollectDown flow p root = IsBefore plus DistributeUp flow p root
+IsAfter plus DistributeUp flow p root = IsBefore plus DistributeDown flow p root
+IsAfter plus DistributeDown flow p root = AreAllRight plus flow p
+
+pub record CanPass (plus : ℕ → ℕ → ℕ) (pass : Pass) (flow : FlowOf) (root : ℕ) : Type 0 where
   pub placing : Placing
   pub has : HasPlaced plus flow placing
   pub clique_is : IsClique flow.shape.tree root
-  pub towards : AreRightTowards plus flow placing root
-  pub right : AreRightTo plus flow placing root (λ k. leads_down flow.shape.tree root k ≡ true)
+  pub before : IsBefore plus pass flow placing root

@@ -197,7 +197,7 @@ pub returns-then-first : goal.returns-then-first
 returns-then-first g c =
     let plus = g.R.Semiring.plus_of in let shape = c.args.shape.now in let k = c.args.clique in
     let before = c.args.board.now in let loop = c.loop-neighbour in
-    let product = product_of loop.board k in let cleared = c.clear_product.ensures.cleared in
+    let product = product_of loop.board k in let cleared = c.clear_product.ensures.made in
     let long : loop.neighbour-index ≡ length (neighbours shape.tree k) =
     let e = ap (λ (xs : List ℕ). length xs) c.neighbours-neighbour-items.ensures in omega
     (arith, e, c.loop-neighbour-test.false, loop.auto.neighbour-index-end) in

@@ -41,7 +41,7 @@ times_message-requires g c =
 pub returns-clause-into : goal.returns-clause-into
 returns-clause-into g c =
     let board = c.args.board.now in let k = c.args.clique in let i = c.args.missing in
-    let t = c.times_message.ensures.times in
+    let t = c.times_message.ensures.made in
     into_back g.R.Semiring.plus_of g.met.R.Semiring.lawful c.args.shape.now k c.requires.clique
     board.upward board.downward i c.requires.linked
     (product_of board k) (message_of board i k) c.requires.has refl

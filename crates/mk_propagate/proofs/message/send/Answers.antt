@@ -58,7 +58,7 @@ returns-then-neighbours-lt2-clause-right g c = λ p out.
     (core_of c.args.board.now c.args.from) (product_of c.args.board.now c.args.from) out
     (message_of c.args.board.now c.args.from c.args.to)
     (message_of c.send_core.new.self c.args.from c.args.to) c.requires.scope
-    (omega (arith, e, c.if-neighbours-lt2.true)) c.send_core.ensures.margin
+    (omega (arith, e, c.if-neighbours-lt2.true)) c.send_core.ensures.made
 
 pub returns-else-neighbours-lt2-clause-right : goal.returns-else-neighbours-lt2-clause-right
 returns-else-neighbours-lt2-clause-right g c = λ p out.
@@ -68,4 +68,4 @@ returns-else-neighbours-lt2-clause-right g c = λ p out.
     (core_of c.args.board.now c.args.from) (product_of c.args.board.now c.args.from) out
     (message_of c.args.board.now c.args.from c.args.to)
     (message_of c.send_product.new.self c.args.from c.args.to) c.requires.scope
-    (omega (arith, e, c.if-neighbours-lt2.false)) c.send_product.ensures.margin
+    (omega (arith, e, c.if-neighbours-lt2.false)) c.send_product.ensures.made

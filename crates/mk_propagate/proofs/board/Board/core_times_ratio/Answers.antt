@@ -1,23 +1,11 @@
+use Rattle.std.proofs.Common.{rules}
 use Rattle.mk_net.specs.Trades.{trade_ratio}
 use Rattle.mk_propagate.specs.inner.Changes.{IsTimesRatio}
-use Rattle.mk_propagate.proofs.Boards.{core_only, core_changed}
+use Rattle.mk_propagate.specs.inner.Boards.{Core}
+use Rattle.mk_propagate.proofs.Boards.{puts}
 use Rattle.mk_propagate.proofs.board.Board.core_times_ratio.Goals as goal
 
-pub returns-clause-only : goal.returns-clause-only
-returns-clause-only g c =
-    core_only c.self.inside.cliques c.self.inside.tables c.args.self.now c.self.view_is
-    c.self.invariant c.args.clique c.requires.clique c.core_place-core.result
-    c.core_place-core.ensures c.times_ratio.new.self c.times_ratio.ensures.only
-
-pub returns-clause-times : goal.returns-clause-times
-returns-clause-times g c =
-    core_changed c.self.inside.cliques c.self.inside.tables c.args.self.now c.self.view_is
-    c.self.invariant c.args.clique c.requires.clique c.core_place-core.result
-    c.core_place-core.ensures c.times_ratio.new.self c.times_ratio.ensures.only
-    (IsTimesRatio (trade_ratio c.args.ratio.now))
-    (record {
-      scope = c.times_ratio.ensures.scope;
-      shift = c.times_ratio.ensures.shift;
-      numbers = c.times_ratio.ensures.numbers;
-      touched = c.times_ratio.ensures.touched;
-    })
+pub returns : goal.returns
+returns g c =
+    puts c.self.invariant c.self.view_is (Core c.args.clique) c.requires.clique c.core_place-core.ensures c.times_ratio.new.self
+    c.times_ratio.ensures.only (IsTimesRatio (trade_ratio c.args.ratio.now)) (search rules)

@@ -1,19 +1,17 @@
 use Rattle.std.proofs.Common.{slice_index_or}
 use Rattle.mk_propagate.specs.Flows.{no_table}
-use Rattle.mk_propagate.specs.inner.Boards.{product_of}
+use Rattle.mk_propagate.specs.inner.Boards.{product_of, Product, Core}
 use Rattle.mk_propagate.specs.inner.Totals.{IsTotal}
-use Rattle.mk_propagate.proofs.Boards.{core_seen, product_seen}
+use Rattle.mk_propagate.proofs.Boards.{seen}
 use Rattle.mk_propagate.proofs.board.Board.core_value.Goals as goal
 
 pub returns : goal.returns
 returns g c =
     let k = c.args.clique in let R = g.R.Semiring in let into = c.product_place-into in
-    core_seen c.self.inside.cliques c.self.inside.tables c.args.self.now c.self.view_is
-    c.self.invariant k c.requires.clique c.core_place-core.result c.core_place-core.ensures
+    seen c.self.invariant c.self.view_is (Core k) c.requires.clique c.core_place-core.ensures
     (λ t. IsTotal R.encloses R.has_grade R.is_exact R.plus_of t (product_of c.args.self.now k)
     c.args.event.now c.args.grade c.value_of.result)
-    (product_seen c.self.inside.cliques c.self.inside.tables c.args.self.now c.self.view_is
-    c.self.invariant k c.requires.clique into.result into.ensures
+    (seen c.self.invariant c.self.view_is (Product k) c.requires.clique into.ensures
     (λ t. IsTotal R.encloses R.has_grade R.is_exact R.plus_of
     (slice_index_or c.self.inside.tables c.core_place-core.result no_table) t c.args.event.now
     c.args.grade c.value_of.result)

@@ -1,31 +1,11 @@
-use Rattle.std.proofs.Common.{slice_index_or}
-use Rattle.mk_propagate.specs.Flows.{no_table}
+use Rattle.std.proofs.Common.{rules}
 use Rattle.mk_propagate.specs.inner.Gathered.{IsTimesMessage}
-use Rattle.mk_propagate.specs.inner.Boards.{board_of, product_of}
-use Rattle.mk_propagate.proofs.Boards.{message_seen, product_only, product_changed}
+use Rattle.mk_propagate.specs.inner.Boards.{Message, Product}
+use Rattle.mk_propagate.proofs.Boards.{puts_of}
 use Rattle.mk_propagate.proofs.board.Board.times_message.Goals as goal
 
-pub returns-clause-only : goal.returns-clause-only
-returns-clause-only g c =
-    product_only c.self.inside.cliques c.self.inside.tables c.args.self.now c.self.view_is
-    c.self.invariant c.args.clique c.requires.both.other c.product_place-product.result
-    c.product_place-product.ensures c.times_message.new.self c.times_message.ensures.only
-
-pub returns-clause-times : goal.returns-clause-times
-returns-clause-times g c =
-    let k = c.args.clique in let new = c.times_message.new.self in
-    message_seen c.self.inside.cliques c.self.inside.tables c.args.self.now c.self.view_is
-    c.self.invariant c.args.neighbour k c.requires.both c.message_place-message.result
-    c.message_place-message.ensures (λ t. IsTimesMessage t (product_of c.args.self.now k)
-    (product_of (board_of c.self.inside.cliques new) k))
-    (product_changed c.self.inside.cliques c.self.inside.tables c.args.self.now c.self.view_is
-    c.self.invariant k c.requires.both.other c.product_place-product.result
-    c.product_place-product.ensures new c.times_message.ensures.only
-    (IsTimesMessage (slice_index_or c.self.inside.tables c.message_place-message.result no_table))
-    (record {
-      scope = c.times_message.ensures.scope;
-      shift = c.times_message.ensures.shift;
-      full = c.times_message.ensures.full;
-      numbers = c.times_message.ensures.numbers;
-      touched = c.times_message.ensures.touched;
-    }))
+pub returns : goal.returns
+returns g c =
+    puts_of c.self.invariant c.self.view_is (Message c.args.neighbour c.args.clique) c.requires.both c.message_place-message.ensures
+    (Product c.args.clique) c.requires.both.other c.product_place-product.ensures c.times_message.new.self
+    c.times_message.ensures.only IsTimesMessage (search rules)

@@ -148,15 +148,17 @@ sum_core-requires g c =
     let can = can_send plus _ _ a c.args.to c.self.view_is c.requires in
     let clique = sends plus _ a c.args.to can in let kept = c.self.invariant.kept in
     record {
-      clique = subst (λ (s : ShapeOf). IsClique s.tree a) (sym c.deref.ensures) clique;
-      over = kept.one_each ∙ ap (λ (s : ShapeOf). length s.tree.cliques) (sym c.deref.ensures);
-      core_scope =
-          kept.cores_are.scopes a clique ∙ ap (λ (s : ShapeOf). core_scope s a) (sym c.deref.ensures);
-      table_scope =
-          kept.table_scopes a clique ∙ ap (λ (s : ShapeOf). clique_scope s a) (sym c.deref.ensures);
-      room =
-          table_room _ can.placing can.has.shape_is can.has.placing plus g.met.R.Semiring.lawful a
-          clique (table_of start a) (can.has.tables a clique);
+      can = record {
+        clique = subst (λ (s : ShapeOf). IsClique s.tree a) (sym c.deref.ensures) clique;
+        over = kept.one_each ∙ ap (λ (s : ShapeOf). length s.tree.cliques) (sym c.deref.ensures);
+        of_core =
+            kept.cores_are.scopes a clique ∙ ap (λ (s : ShapeOf). core_scope s a) (sym c.deref.ensures);
+        of_table =
+            kept.table_scopes a clique ∙ ap (λ (s : ShapeOf). clique_scope s a) (sym c.deref.ensures);
+        room =
+            table_room _ can.placing can.has.shape_is can.has.placing plus g.met.R.Semiring.lawful a
+            clique (table_of start a) (can.has.tables a clique);
+      };
       shift =
           shift_before plus _ _ _ _ c.self.invariant a clique c.deref.result.now c.deref.ensures
           (table_of start a) (read_there start.tables (a - 1)) (core_of start a)

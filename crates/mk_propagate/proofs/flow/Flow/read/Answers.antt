@@ -186,21 +186,23 @@ sum_core-requires g c =
     let can = can g s in let kept = c.self.invariant.kept in
     let only = c.refresh.ensures.only in let shape = c.deref-then-core_holds in
     record {
-      clique =
-          subst (λ (x : ShapeOf). IsClique x.tree k) (sym shape.ensures) can.clique_is;
-      over =
-          ap (λ (x : BoardOf). length x.tables) only ∙ kept.one_each
-          ∙ ap (λ (s : ShapeOf). length s.tree.cliques) (sym shape.ensures);
-      core_scope =
-          ap (λ (x : BoardOf). (core_of x k).scope) only ∙ kept.cores_are.scopes k can.clique_is
-          ∙ ap (λ (s : ShapeOf). core_scope s k) (sym shape.ensures);
-      table_scope =
-          ap (λ (x : BoardOf). (table_of x k).scope) only ∙ kept.table_scopes k can.clique_is
-          ∙ ap (λ (s : ShapeOf). clique_scope s k) (sym shape.ensures);
-      room =
-          total_room g.R.Semiring.plus_of g.met.R.Semiring.lawful _ _ _ kept k c.args.event.now _
-          (table_is g s) _ can.placing can.has can.clique_is can.holds_it
-          (into_it g s can.placing can.has can.right _ refl);
+      can = record {
+        clique =
+            subst (λ (x : ShapeOf). IsClique x.tree k) (sym shape.ensures) can.clique_is;
+        over =
+            ap (λ (x : BoardOf). length x.tables) only ∙ kept.one_each
+            ∙ ap (λ (s : ShapeOf). length s.tree.cliques) (sym shape.ensures);
+        of_core =
+            ap (λ (x : BoardOf). (core_of x k).scope) only ∙ kept.cores_are.scopes k can.clique_is
+            ∙ ap (λ (s : ShapeOf). core_scope s k) (sym shape.ensures);
+        of_table =
+            ap (λ (x : BoardOf). (table_of x k).scope) only ∙ kept.table_scopes k can.clique_is
+            ∙ ap (λ (s : ShapeOf). clique_scope s k) (sym shape.ensures);
+        room =
+            total_room g.R.Semiring.plus_of g.met.R.Semiring.lawful _ _ _ kept k c.args.event.now _
+            (table_is g s) _ can.placing can.has can.clique_is can.holds_it
+            (into_it g s can.placing can.has can.right _ refl);
+      };
       shift =
           shift_before g.R.Semiring.plus_of _ _ _ _ c.self.invariant k can.clique_is
           shape.result.now shape.ensures _ (tables_are c.self.inside.board c.refresh.new.board k only) _ (cores_are c.self.inside.board c.refresh.new.board k only)
@@ -369,20 +371,12 @@ returns-then-core_holds g c =
           let has = subst (λ (f : FlowOf). HasPlaced plus f p) (sym c.self.view_is) h in
           let right = subst (λ (f : FlowOf). AreRightInto plus f p k) (sym c.self.view_is) r in
           let there = into_it g fresh p has right _ (same_product g s) in
-          let t = core_can_total plus law _ _ _ c.self.invariant.kept k c.args.event.now _
-          (table_is g fresh) _ p has can.clique_is can.holds_it there _ (core_sums g s can.clique_is p has)
-          (within_core g s) (grade g cells) (counted g cells) in
-          let value = c.core_value.ensures in
           subst (λ (f : FlowOf). IsReading R.encloses R.has_grade R.is_exact plus f.shape.tree p k
           c.args.event.now c.core_value.result) c.self.view_is
           (core_reading_of plus law _ _ _ c.self.invariant.kept k c.args.event.now _
           (table_is g fresh) _ p has can.clique_is can.holds_it there _ (core_sums g s can.clique_is p has)
-          (within_core g s) R.encloses R.has_grade R.is_exact c.core_value.result (grade g cells) (counted g cells)
-          (value.enclosed t.numbers t.others t.steps t.other_steps t.has t.has_others t.within)
-          value.has
-          (value.exact t.numbers t.others t.steps t.other_steps t.has t.has_others t.within)
-          (λ none none_too. value.apart none none_too t.numbers t.others t.steps t.other_steps
-          t.has t.has_others t.within));
+          (within_core g s) (grade g cells) (counted g cells) R.encloses R.has_grade R.is_exact
+          c.core_value.result c.core_value.ensures);
     }
 
 pub returns : goal.returns
@@ -404,17 +398,9 @@ returns g c =
           let has = subst (λ (f : FlowOf). HasPlaced plus f p) (sym c.self.view_is) h in
           let right = subst (λ (f : FlowOf). AreRightInto plus f p k) (sym c.self.view_is) r in
           let there = into_it g fresh p has right _ refl in
-          let t = can_total plus law _ _ _ c.self.invariant.kept k c.args.event.now _
-          (table_is g fresh) _ p has can.clique_is can.holds_it there (grade g cells) (counted g cells) in
-          let value = c.table_value.ensures in
           subst (λ (f : FlowOf). IsReading R.encloses R.has_grade R.is_exact plus f.shape.tree p k
           c.args.event.now c.table_value.result) c.self.view_is
           (reading_of plus law _ _ _ c.self.invariant.kept k c.args.event.now _
-          (table_is g fresh) _ p has can.clique_is can.holds_it there R.encloses R.has_grade
-          R.is_exact c.table_value.result (grade g cells) (counted g cells)
-          (value.enclosed t.numbers t.others t.steps t.other_steps t.has t.has_others t.within)
-          value.has
-          (value.exact t.numbers t.others t.steps t.other_steps t.has t.has_others t.within)
-          (λ none none_too. value.apart none none_too t.numbers t.others t.steps t.other_steps
-          t.has t.has_others t.within));
+          (table_is g fresh) _ p has can.clique_is can.holds_it there (grade g cells) (counted g cells)
+          R.encloses R.has_grade R.is_exact c.table_value.result c.table_value.ensures);
     }

@@ -25,13 +25,13 @@ invariant_of-self g c =
     flow_called g.R.Semiring.plus_of inside.shape.value inside.summed.items inside.factors
     inside.computed inside.cells inside.board made.new.self c.args.self.now c.self.view_is
     c.self.invariant.kept c.requires.0 c.requires.1 c.args.clique c.requires.2.clique_is
-    made.ensures.only made.ensures.restricted.scope inside.factors inside.gathered.items
+    made.ensures.only made.ensures.made.scope inside.factors inside.gathered.items
     c.self.invariant.gathered_are
 
 pub returns : goal.returns
 returns g c =
     let inside = c.self.inside in let k = c.args.clique in
-    let made = c.restrict in let only = made.ensures.only in let now = made.ensures.restricted in
+    let made = c.restrict in let only = made.ensures.only in let now = made.ensures.made in
     record {
       kept =
           messages_called g.R.Semiring.plus_of inside.shape.value inside.summed.items

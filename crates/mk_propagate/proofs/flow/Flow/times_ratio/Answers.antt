@@ -35,35 +35,40 @@ times_ratio-requires g c =
     let takes = takes_ratio g.R.Semiring.plus_of _ c.args.self.now c.self.view_is b.products _
     c.self.invariant.kept c.requires.0 c.requires.1.has k c.requires.2.clique_is (table_of b k)
     (read_there b.tables (k - 1)) b refl (trade_ratio c.args.ratio.now) c.requires.2 in
-    record { clique = takes.there; event = takes.event; one_each = takes.one_each; room = takes.room }
+    record {
+      clique = takes.there;
+      ratio = record { event = takes.event; one_each = takes.one_each; room = takes.room };
+    }
 
 pub follow-requires : goal.follow-requires
 follow-requires g c =
     let plus = g.R.Semiring.plus_of in let inside = c.self.inside in let b = inside.board in
     let k = c.args.clique in let kept = c.self.invariant.kept in
-    let made = c.times_ratio in let only = made.ensures.only in let times = made.ensures.times in
+    let made = c.times_ratio in let only = made.ensures.only in let times = made.ensures.made in
     let at = clique_old plus _ c.args.self.now c.self.view_is b.products _ kept c.requires.0
     c.requires.1.has k c.requires.2.clique_is (table_of b k) (read_there b.tables (k - 1)) in
     let same = c.deref.ensures ∙ ap (λ (f : FlowOf). f.shape) c.self.view_is in
     record {
-      clique = subst (λ (s : ShapeOf). IsClique s.tree k) (sym c.deref.ensures) at;
-      over =
-          ap (λ (x : BoardOf). length x.tables) only
-          ∙ length-set b.tables (k - 1) (table_of made.new.self k) ∙ kept.one_each
-          ∙ ap (λ (s : ShapeOf). length s.tree.cliques) (sym c.deref.ensures);
-      core_scope =
-          ap (λ (x : BoardOf). (core_of x k).scope) only ∙ kept.cores_are.scopes k at
-          ∙ ap (λ (s : ShapeOf). core_scope s k) (sym c.deref.ensures);
-      table_scope =
-          times.scope ∙ kept.table_scopes k at
-          ∙ ap (λ (s : ShapeOf). clique_scope s k) (sym c.deref.ensures);
-      room =
-          room_with plus _ c.args.self.now c.self.view_is b.products _ kept c.requires.0
-          c.requires.1.has k c.requires.2.clique_is (table_of b k) (read_there b.tables (k - 1))
-          (table_of made.new.self k) times.scope g.met.R.Semiring.lawful
-          (trade_ratio c.args.ratio.now) c.requires.2
-          (omega (arith, c.requires.1.has.counted, c.requires.1.room)) times.shift times.touched
-          times.numbers;
+      can = record {
+        clique = subst (λ (s : ShapeOf). IsClique s.tree k) (sym c.deref.ensures) at;
+        over =
+            ap (λ (x : BoardOf). length x.tables) only
+            ∙ length-set b.tables (k - 1) (table_of made.new.self k) ∙ kept.one_each
+            ∙ ap (λ (s : ShapeOf). length s.tree.cliques) (sym c.deref.ensures);
+        of_core =
+            ap (λ (x : BoardOf). (core_of x k).scope) only ∙ kept.cores_are.scopes k at
+            ∙ ap (λ (s : ShapeOf). core_scope s k) (sym c.deref.ensures);
+        of_table =
+            times.scope ∙ kept.table_scopes k at
+            ∙ ap (λ (s : ShapeOf). clique_scope s k) (sym c.deref.ensures);
+        room =
+            room_with plus _ c.args.self.now c.self.view_is b.products _ kept c.requires.0
+            c.requires.1.has k c.requires.2.clique_is (table_of b k) (read_there b.tables (k - 1))
+            (table_of made.new.self k) times.scope g.met.R.Semiring.lawful
+            (trade_ratio c.args.ratio.now) c.requires.2
+            (omega (arith, c.requires.1.has.counted, c.requires.1.room)) times.shift times.touched
+            times.numbers;
+      };
       core_room = λ marked.
           subst (λ (t : TableOf). HasRoom t 1) (sym (ap (λ (x : BoardOf). core_of x k) only))
           (core_had_room plus _ c.args.self.now c.self.view_is b.products _ kept c.requires.0
@@ -98,7 +103,7 @@ invariant_of-self g c =
     (sym (board_is g (goal.at.invariant_of-self g c).After-follow))
     (flow_followed g.R.Semiring.plus_of _ c.args.self.now c.self.view_is b.products inside.cells
     c.self.invariant.kept c.requires.0 c.requires.1.has k c.requires.2.clique_is (table_of b k)
-    (read_there b.tables (k - 1)) (table_of made.new.self k) made.ensures.times.scope (core_of b k)
+    (read_there b.tables (k - 1)) (table_of made.new.self k) made.ensures.made.scope (core_of b k)
     (core_of after.new.board k) (read_there b.cores (k - 1))
     (after.ensures.scope ∙ ap (λ (x : BoardOf). (core_of x k).scope) made.ensures.only)
     c.index_mut.result.now after.new.summed c.index_mut.ensures.value (table_of made.new.self k)
@@ -108,7 +113,7 @@ invariant_of-self g c =
 pub returns : goal.returns
 returns g c =
     let inside = c.self.inside in let b = inside.board in let k = c.args.clique in
-    let made = c.times_ratio in let times = made.ensures.times in let after = c.follow in
+    let made = c.times_ratio in let times = made.ensures.made in let after = c.follow in
     let is = board_is g (goal.at.returns g c).After-follow in
     let ratio = trade_ratio c.args.ratio.now in
     record {

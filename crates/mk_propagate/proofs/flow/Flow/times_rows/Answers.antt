@@ -20,10 +20,12 @@ times_rows-requires g c =
     c.requires.3 in
     record {
       clique = takes.there;
-      variable = c.requires.3.fits.0;
-      family = takes.family;
-      parents = takes.parents;
-      room = takes.room;
+      family = record {
+        within = c.requires.3.fits.0;
+        family = takes.family;
+        parents = takes.parents;
+        room = takes.room;
+      };
     }
 
 pub invariant_of-self : goal.invariant_of-self
@@ -32,13 +34,13 @@ invariant_of-self g c =
     flow_called g.R.Semiring.plus_of inside.shape.value inside.summed.items inside.factors
     inside.computed inside.cells inside.board made.new.self c.args.self.now c.self.view_is
     c.self.invariant.kept c.requires.0 c.requires.1.has c.args.clique c.requires.3.clique_is
-    made.ensures.only made.ensures.times.scope (inside.factors + 1) inside.gathered.items
+    made.ensures.only made.ensures.made.scope (inside.factors + 1) inside.gathered.items
     c.self.invariant.gathered_are
 
 pub returns : goal.returns
 returns g c =
     let inside = c.self.inside in let b = inside.board in let k = c.args.clique in
-    let made = c.times_rows in let only = made.ensures.only in let times = made.ensures.times in
+    let made = c.times_rows in let only = made.ensures.only in let times = made.ensures.made in
     let f = RowsOf c.args.variable in
     record {
       kept =
