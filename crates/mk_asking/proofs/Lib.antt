@@ -11,3 +11,4 @@ pub mod Judging
 pub mod TogetherSpreads
 pub mod StoppedSpreads
 pub mod Traded
+pub mod Counted

@@ -17,7 +17,7 @@ use Rattle.mk_rules.specs.Bounded.{FitsTransfer}
 use Rattle.mk_cash.specs.declared.ledger.Account.{Account}
 use Rattle.mk_cash.specs.Accounts.{account_of, empty_account}
 use Rattle.mk_market.specs.Points.{IsAccount, AreAccounts}
-use Rattle.mk_market.proofs.Owned.{none_moved}
+use Rattle.mk_parts.proofs.Moved.{none_moved}
 
 -- an account that is set to one that was paid the same leaves what was paid, and so does one that
 -- is opened

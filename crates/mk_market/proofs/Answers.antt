@@ -9,7 +9,9 @@ use Rattle.mk_net.specs.declared.words.QuestionText.{QuestionText}
 use Rattle.mk_states.specs.Events.{holds}
 use Rattle.mk_exact.specs.History.{Entry, trades}
 use Rattle.mk_exact.specs.Weight.{cannot_come}
-use Rattle.mk_tree.specs.Given.{GivenTree}
+use Rattle.mk_net.specs.Events.{pairs_asked}
+use Rattle.mk_tree.specs.Given.{GivenTree, home}
+use Rattle.mk_tree.proofs.Held.{home_is_held}
 use Rattle.mk_file.specs.declared.market_file.MarketFile.{MarketFile}
 use Rattle.mk_file.specs.MarketOf.{market_of}
 use Rattle.mk_engine.specs.Meaning.{Meaning}
@@ -21,6 +23,7 @@ use Rattle.mk_reply.specs.declared.reply.Reply.TheVariants.{Price as Priced}
 use Rattle.mk_rules.specs.Refusals.{refusals_by_record, impossible_together}
 use Rattle.mk_rules.specs.Answers.{IsPrice}
 use Rattle.mk_rules.specs.Transcript.{OfCommand, IsAllowedFor, after}
+use Rattle.mk_answers.specs.Calls.{CanPrice}
 use Rattle.mk_answers.specs.Open.{IsOpen, CanBeAnswered}
 use Rattle.mk_answers.specs.Results.{IsPriceFor}
 use Rattle.mk_rules.proofs.Unrefused.{target_named}
@@ -28,7 +31,7 @@ use Rattle.mk_record.specs.declared.users.Member.{Member}
 use Rattle.mk_record.specs.Journals.{JournalOf}
 use Rattle.mk_record.specs.Refused.{IsQuestionFor}
 use Rattle.mk_market.specs.inner.Keeping.{standing_of, IsKept}
-use Rattle.mk_market.proofs.Growing.{is_open}
+use Rattle.mk_market.proofs.Growing.{is_open, open_by}
 use Rattle.mk_market.proofs.Replies.{answer_allowed, none_appended, unrefused}
 use Rattle.mk_asking.proofs.Together.{none_together}
 use Rattle.mk_replay.specs.Tills.{TillOf}
@@ -69,3 +72,23 @@ module _ {P A Plan : Type 0} (weights_stand : P → Meaning → Type 0) (gains_s
 
   pub price_next : (question : QuestionText) (low high : ℕ) → standing_of journal members ≡ after (market_of file) (standing_of journal members) (OfCommand (Price question)) (Priced low high)
   price_next question low high = none_appended (market_of file) (standing_of journal members) (Price question) (Priced low high) refl refl
+
+-- the engine can price it in its home
+pub can_price : {P A Plan : Type 0} {weights_stand : P → Meaning → Type 0}
+    {gains_stand : A → Meaning → Type 0} {plan_for : Plan → List Variable → GivenTree → Type 0}
+    {file : MarketFile} {prices : P} {rows : A} {plan : Plan} {members : List (Member A Plan)}
+    {ledger : LedgerOf} {journal : JournalOf} {payments : Option (List Payment)}
+    {till : Option TillOf}
+    {question : QuestionText} {asked : Asked} {at : ℕ}
+    → IsKept weights_stand gains_stand plan_for file prices rows plan members ledger journal
+    payments till
+    → IsQuestionFor (market_of file) file.tree journal.history question asked
+    → home file.tree (pairs_asked asked) ≡ Some at → CanPrice weights_stand prices file.net at asked
+can_price {file = file} {journal = journal} {asked = asked} {at = at} kept is_question at_home = record {
+  tree = file.tree;
+  history = journal.history;
+  stands = kept.prices_stand;
+  is_open = open_by kept;
+  answered = is_question.answered;
+  held = home_is_held file.tree at (pairs_asked asked) at_home;
+}

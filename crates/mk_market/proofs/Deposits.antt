@@ -35,7 +35,8 @@ use Rattle.mk_record.proofs.Appends.{not_there, not_found}
 use Rattle.mk_market.proofs.Growing.{kept_grown}
 use Rattle.mk_asking.proofs.Owned.{names_same, quotes_same, held_one}
 use Rattle.mk_market.proofs.Owned.{deposit_holding}
-use Rattle.mk_market.proofs.Owned.{deposit_others, few_moved}
+use Rattle.mk_market.proofs.Owned.{deposit_others}
+use Rattle.mk_parts.proofs.Moved.{few_moved}
 use Rattle.mk_market.proofs.Accounted.{paid_set, accounts_deposited}
 use Rattle.mk_market.proofs.Replies.{answer_allowed, unsettled}
 use Rattle.mk_replay.specs.Tills.{TillOf}

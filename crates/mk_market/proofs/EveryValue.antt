@@ -1,9 +1,7 @@
 -- What a market tells of every value of a variable, and of itself.
-use Rattle.std.specs.Prelude.{◌≡◌, ℕ, ◌+◌, List, [], ◌∷◌, map, Bool, true}
+use Rattle.std.specs.Prelude.{◌≡◌, ℕ, List, [], ◌∷◌, map, true}
 use Rattle.std.specs.Prelude.{false, Option, Some, None, option_map, slice_get, IsSomeAnd}
-use Rattle.std.specs.List.{count_by, range_with_len}
-use Rattle.std.proofs.Common.{zero, suc, cond, refl, sym, ap, ◌∙◌, subst, arith}
-use Rattle.std.proofs.lemmas.List.Sums.{sum_by-cons}
+use Rattle.std.proofs.Common.{refl, sym, ap, ◌∙◌, subst}
 use Rattle.arrayvec.specs.ArrayVec.{ArrayVec}
 use Rattle.mk_net.specs.declared.words.PairText.{PairText}
 use Rattle.mk_net.specs.Firsts.{first_of}
@@ -50,42 +48,6 @@ use Rattle.mk_asking.proofs.Owned.{names_same, quotes_same, all_still}
 use Rattle.mk_market.proofs.Replies.{answer_allowed, refusal_allowed, stopped_by_states, unrefused}
 use Rattle.mk_asking.proofs.Together.{none_together}
 use Rattle.mk_replay.specs.Tills.{TillOf}
-
--- ---- questions that are not resolved
-
-module _ (p : ℕ → Bool) where
-  counted_ranges : (n a : ℕ) →
-      count_by p (range_with_len a (suc n)) ≡ count_by p (range_with_len a n) + cond (p (a + n)) 1 0
-  counted_ranges zero a =
-      let one = sum_by-cons (λ (v : ℕ). cond (p v) 1 0) a [] in
-      let here : a + 0 ≡ a = omega arith in
-      rw here (omega (arith, one))
-  counted_ranges (suc n) a =
-      let one = sum_by-cons (λ (v : ℕ). cond (p v) 1 0) a (range_with_len (a + 1) (suc n)) in
-      let few = sum_by-cons (λ (v : ℕ). cond (p v) 1 0) a (range_with_len (a + 1) n) in
-      let later = counted_ranges n (a + 1) in
-      let here : a + suc n ≡ a + 1 + n = omega arith in
-      rw here (omega (arith, one, few, later))
-
-  -- one number more that passes, or does not
-  pub one_counted : (n count : ℕ) → count ≡ count_by p (range_with_len 0 n) → p n ≡ true →
-      count + 1 ≡ count_by p (range_with_len 0 (n + 1))
-  one_counted n count e is =
-      let on : suc n ≡ n + 1 = omega arith in
-      let here : 0 + n ≡ n = omega arith in
-      let more = rw here at (counted_ranges n 0) in
-      let one = ap {B = ℕ} (λ (b : Bool). cond b 1 0) is in
-      subst (λ (k : ℕ). count + 1 ≡ count_by p (range_with_len 0 k)) on
-      (omega (arith, more, one, e))
-
-  pub none_counted : (n count : ℕ) → count ≡ count_by p (range_with_len 0 n) → p n ≡ false →
-      count ≡ count_by p (range_with_len 0 (n + 1))
-  none_counted n count e is =
-      let on : suc n ≡ n + 1 = omega arith in
-      let here : 0 + n ≡ n = omega arith in
-      let more = rw here at (counted_ranges n 0) in
-      let one = ap {B = ℕ} (λ (b : Bool). cond b 1 0) is in
-      subst (λ (k : ℕ). count ≡ count_by p (range_with_len 0 k)) on (omega (arith, more, one, e))
 
 -- ---- a condition that cannot come
 

@@ -3,11 +3,9 @@ use Rattle.std.specs.Prelude.{◌≡◌, ℕ, ◌+◌, List, [], ◌∷◌, ◌+
 use Rattle.std.specs.Prelude.{slice_get}
 use Rattle.std.proofs.Common.{sym, ap, ◌∙◌, subst, arith}
 use Rattle.std.proofs.lemmas.List.{length_push}
-use Rattle.mk_net.specs.Network.{Variable, IsNetwork, sizes}
-use Rattle.mk_sets.specs.Sets.{is_member}
+use Rattle.mk_net.specs.Network.{Variable}
 use Rattle.mk_exact.specs.History.{Entry, users, is_settled}
 use Rattle.mk_exact.specs.Market.{Market}
-use Rattle.mk_tree.specs.Checked.{IsTreeOf}
 use Rattle.mk_tree.specs.Given.{GivenTree}
 use Rattle.mk_tree.specs.Tests.{members}
 use Rattle.mk_file.specs.declared.market_file.MarketFile.{MarketFile}
@@ -26,8 +24,6 @@ use Rattle.mk_reply.specs.declared.reply.Reply.{Reply}
 use Rattle.mk_rules.specs.Answers.{next_history}
 use Rattle.mk_rules.specs.Transcript.{Standing, OfCommand, after}
 use Rattle.mk_rules.proofs.Adds.{IsNoAddition, adds_nothing}
-use Rattle.mk_rules.proofs.Cells.{lists_known, lists_cells}
-use Rattle.mk_rules.specs.Standings.{IsMarket}
 use Rattle.mk_rules.specs.Bounded.{JoinsByName}
 use Rattle.mk_restore.specs.Laws.{IsSafe}
 use Rattle.mk_restore.specs.Restoring.{IsFit}
@@ -37,31 +33,9 @@ use Rattle.mk_record.specs.declared.users.Member.{Member}
 use Rattle.mk_record.specs.Journals.{JournalOf}
 use Rattle.mk_record.specs.Members.{names_of, assets_of, quotes_of}
 use Rattle.mk_market.specs.Points.{AreAccounts}
-use Rattle.mk_asking.specs.Keeping.{AreHeld, IsKeptQuote, TakesAsMuch}
+use Rattle.mk_asking.specs.Keeping.{AreHeld, IsKeptQuote, AreKeptQuotes, TakesAsMuch}
 use Rattle.mk_market.specs.inner.Keeping.{standing_of, IsKept}
 use Rattle.mk_replay.specs.Tills.{TillOf, room_for}
-
--- the market of a file is one
-pub market_is : (file : MarketFile) → IsNetwork file.net → IsTreeOf file.net file.tree
-    → IsMarket (market_of file)
-market_is file legal tree = record {
-  network = legal;
-  cliques_known = lists_known is_member (length file.net) file.tree.cliques;
-  few_cells = omega (
-    arith,
-    lists_cells (members file.net) (sizes file.net) file.tree.cliques,
-    tree.few_cells,
-  );
-  some_points = file.points_positive;
-  few_points = file.points_most;
-  some_trades = file.trades_positive;
-  few_trades = file.trades_most;
-  some_users = file.users_positive;
-  few_users = file.users_most;
-  some_transfers = file.transfers_positive;
-  few_transfers = file.transfers_most;
-  shares = file.no_zeros;
-}
 
 -- a change that is taken back keeps its market safe, where it adds nothing to it
 abbrev pub SafeIn : List Entry → Market → Type 0
@@ -82,15 +56,55 @@ quote_later network longer tree more H e u quote kept =
     let pushed : length (H ++ e ∷ []) ≡ length H + 1 = length_push H e in
     record { same_user = kept.same_user; not_later = omega (arith, kept.not_later); current = λ same. absurd (omega (arith, kept.not_later)) }
 
+-- a market that is kept is open
+pub open_by : {P A Plan : Type 0} {weights_stand : P → Meaning → Type 0}
+    {gains_stand : A → Meaning → Type 0} {plan_for : Plan → List Variable → GivenTree → Type 0}
+    {file : MarketFile} {prices : P} {rows : A} {plan : Plan} {members : List (Member A Plan)}
+    {ledger : LedgerOf} {journal : JournalOf} {payments : Option (List Payment)}
+    {till : Option TillOf}
+    → IsKept weights_stand gains_stand plan_for file prices rows plan members ledger journal
+    payments till
+    → IsOpen file.net file.tree journal.history
+open_by kept = record {
+  legal = kept.legal;
+  tree_of_it = kept.tree;
+  proper = kept.safe.proper;
+  within = kept.safe.bounded.within;
+}
+
 module _ {P A Plan : Type 0} (weights_stand : P → Meaning → Type 0) (gains_stand : A → Meaning → Type 0) (plan_for : Plan → List Variable → GivenTree → Type 0) where
-  -- a market that is kept is open
   pub is_open : (file : MarketFile) (prices : P) (rows : A) (plan : Plan) (members : List (Member A Plan)) (ledger : LedgerOf) (journal : JournalOf) (payments : Option (List Payment)) (till : Option TillOf)
       → IsKept weights_stand gains_stand plan_for file prices rows plan members ledger journal payments till → IsOpen file.net file.tree journal.history
-  is_open file prices rows plan members ledger journal payments till kept = record {
+  is_open file prices rows plan members ledger journal payments till kept = open_by kept
+
+  -- engines that stand for the history, and users of the same names and of assets and quotes that
+  -- are theirs, keep the market too
+  pub kept_by : (file : MarketFile) (prices new_prices : P) (rows new_rows : A) (plan : Plan) (members new_members : List (Member A Plan)) (ledger : LedgerOf)
+      (journal : JournalOf) (payments : Option (List Payment)) (till : Option TillOf)
+      → IsKept weights_stand gains_stand plan_for file prices rows plan members ledger journal payments till
+      → weights_stand new_prices (weights_of file.net file.tree journal.history)
+      → gains_stand new_rows (rows_of file.net file.tree journal.history)
+      → names_of new_members ≡ users journal.history
+      → AreHeld gains_stand file.net file.tree journal.history new_members
+      → AreKeptQuotes file.net file.tree journal.history (quotes_of new_members)
+      → IsKept weights_stand gains_stand plan_for file new_prices new_rows plan new_members ledger journal payments till
+  kept_by file prices new_prices rows new_rows plan members new_members ledger journal payments till kept prices_stand rows_stand named held quotes_kept = record {
     legal = kept.legal;
-    tree_of_it = kept.tree;
-    proper = kept.safe.proper;
-    within = kept.safe.bounded.within;
+    tree = kept.tree;
+    planned = kept.planned;
+    prices_stand = prices_stand;
+    rows_stand = rows_stand;
+    named = named;
+    held = held;
+    quotes_kept = quotes_kept;
+    accounts_kept = kept.accounts_kept;
+    ledger_room = kept.ledger_room;
+    safe = kept.safe;
+    max_trades = kept.max_trades;
+    max_users = kept.max_users;
+    max_transfers = kept.max_transfers;
+    room = kept.room;
+    till_room = kept.till_room;
   }
 
   -- what the parts of a market became by an entry
@@ -157,47 +171,21 @@ module _ {P A Plan : Type 0} (weights_stand : P → Meaning → Type 0) (gains_s
       → IsKept weights_stand gains_stand plan_for file prices rows plan members ledger journal payments till
       → AreStill prices new_prices members new_members
       → IsKept weights_stand gains_stand plan_for file new_prices rows plan new_members ledger journal payments till
-  kept_still file prices new_prices rows plan members new_members ledger journal payments till kept are = record {
-    legal = kept.legal;
-    tree = kept.tree;
-    planned = kept.planned;
-    prices_stand = are.prices_still (weights_of file.net file.tree journal.history) kept.prices_stand;
-    rows_stand = kept.rows_stand;
-    named = are.names_still ∙ kept.named;
-    held = λ u assets at.
-        let own = are.held_still u assets at in
-        own.2 (holding_of file.net file.tree journal.history u) (kept.held u (own.0) (own.1));
-    quotes_kept = λ u quote at. kept.quotes_kept u quote (subst (λ (qs : List (Option LastQuote)). slice_get qs u ≡ Some (Some quote)) are.quotes_still at);
-    accounts_kept = kept.accounts_kept;
-    ledger_room = kept.ledger_room;
-    safe = kept.safe;
-    max_trades = kept.max_trades;
-    max_users = kept.max_users;
-    max_transfers = kept.max_transfers;
-    room = kept.room;
-    till_room = kept.till_room;
-  }
+  kept_still file prices new_prices rows plan members new_members ledger journal payments till kept are =
+      kept_by file prices new_prices rows rows plan members new_members ledger journal payments till kept
+      (are.prices_still (weights_of file.net file.tree journal.history) kept.prices_stand)
+      kept.rows_stand (are.names_still ∙ kept.named)
+      (λ u assets at.
+      let own = are.held_still u assets at in
+      own.2 (holding_of file.net file.tree journal.history u) (kept.held u (own.0) (own.1)))
+      (subst (AreKeptQuotes file.net file.tree journal.history) (sym are.quotes_still) kept.quotes_kept)
 
   -- the engine of initial weights may change as long as it stands for all that it stood for
   pub rows_kept : (file : MarketFile) (prices : P) (rows new_rows : A) (plan : Plan) (members : List (Member A Plan)) (ledger : LedgerOf) (journal : JournalOf)
       (payments : Option (List Payment)) (till : Option TillOf) → IsKept weights_stand gains_stand plan_for file prices rows plan members ledger journal payments till
       → ((m : Meaning) → gains_stand rows m → gains_stand new_rows m)
       → IsKept weights_stand gains_stand plan_for file prices new_rows plan members ledger journal payments till
-  rows_kept file prices rows new_rows plan members ledger journal payments till kept still = record {
-    legal = kept.legal;
-    tree = kept.tree;
-    planned = kept.planned;
-    prices_stand = kept.prices_stand;
-    rows_stand = still (rows_of file.net file.tree journal.history) kept.rows_stand;
-    named = kept.named;
-    held = kept.held;
-    quotes_kept = kept.quotes_kept;
-    accounts_kept = kept.accounts_kept;
-    ledger_room = kept.ledger_room;
-    safe = kept.safe;
-    max_trades = kept.max_trades;
-    max_users = kept.max_users;
-    max_transfers = kept.max_transfers;
-    room = kept.room;
-    till_room = kept.till_room;
-  }
+  rows_kept file prices rows new_rows plan members ledger journal payments till kept still =
+      kept_by file prices prices rows new_rows plan members members ledger journal payments till kept
+      kept.prices_stand (still (rows_of file.net file.tree journal.history) kept.rows_stand)
+      kept.named kept.held kept.quotes_kept

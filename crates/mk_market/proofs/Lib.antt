@@ -25,7 +25,7 @@ pub mod Settlement
 pub mod Homes
 pub mod TakenBack
 pub mod TradesBack
-pub mod Booked
-pub mod Following
 pub mod Regrowing
 pub mod PaidOut
+pub mod ByRule
+pub mod Listed

@@ -20,11 +20,12 @@ use Rattle.mk_rules.specs.Quotes.{Quoted, Quote, Quotes}
 use Rattle.mk_record.specs.declared.last_quote.LastQuote.{LastQuote}
 use Rattle.mk_record.specs.declared.users.Member.{Member}
 use Rattle.mk_record.specs.Journals.{JournalOf}
-use Rattle.mk_record.specs.Members.{names_of, assets_of, quotes_of, with_quote}
+use Rattle.mk_record.specs.Members.{names_of, assets_of, quotes_of}
 use Rattle.mk_market.specs.Trading.{Trading, LeavesOthers, IsAnswered}
 use Rattle.mk_asking.specs.Keeping.{AreHeld, IsKeptQuote, AreKeptQuotes}
 use Rattle.mk_market.specs.inner.Keeping.{quoted, standing_of, IsKept}
 use Rattle.mk_market.proofs.Apart.{each_owns}
+use Rattle.mk_market.proofs.Growing.{kept_by}
 use Rattle.mk_asking.proofs.Lent.{read_set}
 use Rattle.mk_asking.proofs.Quotes.{AreQuoted}
 use Rattle.mk_replay.specs.Tills.{TillOf}
@@ -80,24 +81,11 @@ module _ {P A Plan : Type 0} (weights_stand : P → Meaning → Type 0) (gains_s
   -- a market that was kept is kept beside a new quote
   pub kept_quoted : ((m : Meaning) → weights_stand prices m → weights_stand new_prices m)
       → IsKept weights_stand gains_stand plan_for file new_prices rows plan new_members ledger journal payments till
-  kept_quoted still_prices = record {
-    legal = kept.legal;
-    tree = kept.tree;
-    planned = kept.planned;
-    rows_stand = kept.rows_stand;
-    prices_stand = still_prices (weights_of file.net file.tree journal.history) kept.prices_stand;
-    named = are.names ∙ kept.named;
-    held = are.held;
-    quotes_kept = quotes_kept_then;
-    accounts_kept = kept.accounts_kept;
-    ledger_room = kept.ledger_room;
-    safe = kept.safe;
-    max_trades = kept.max_trades;
-    max_users = kept.max_users;
-    max_transfers = kept.max_transfers;
-    room = kept.room;
-    till_room = kept.till_room;
-  }
+  kept_quoted still_prices =
+      kept_by weights_stand gains_stand plan_for file prices new_prices rows rows plan members
+      new_members ledger journal payments till kept
+      (still_prices (weights_of file.net file.tree journal.history) kept.prices_stand)
+      kept.rows_stand (are.names ∙ kept.named) are.held quotes_kept_then
 
 -- or beside no new quote
 module _ {P A Plan : Type 0} (weights_stand : P → Meaning → Type 0) (gains_stand : A → Meaning → Type 0) (plan_for : Plan → List Variable → GivenTree → Type 0)
@@ -106,24 +94,28 @@ module _ {P A Plan : Type 0} (weights_stand : P → Meaning → Type 0) (gains_s
   pub kept_unquoted : ((m : Meaning) → weights_stand prices m → weights_stand new_prices m) → names_of new_members ≡ names_of members → quotes_of new_members ≡ quotes_of members
       → AreHeld gains_stand file.net file.tree journal.history new_members
       → IsKept weights_stand gains_stand plan_for file new_prices rows plan new_members ledger journal payments till
-  kept_unquoted still same_names same_quotes held = record {
-    legal = kept.legal;
-    tree = kept.tree;
-    planned = kept.planned;
-    rows_stand = kept.rows_stand;
-    prices_stand = still (weights_of file.net file.tree journal.history) kept.prices_stand;
-    named = same_names ∙ kept.named;
-    held = held;
-    quotes_kept = subst (AreKeptQuotes file.net file.tree journal.history) (sym same_quotes) kept.quotes_kept;
-    accounts_kept = kept.accounts_kept;
-    ledger_room = kept.ledger_room;
-    safe = kept.safe;
-    max_trades = kept.max_trades;
-    max_users = kept.max_users;
-    max_transfers = kept.max_transfers;
-    room = kept.room;
-    till_room = kept.till_room;
-  }
+  kept_unquoted still same_names same_quotes held =
+      kept_by weights_stand gains_stand plan_for file prices new_prices rows rows plan members
+      new_members ledger journal payments till kept
+      (still (weights_of file.net file.tree journal.history) kept.prices_stand)
+      kept.rows_stand (same_names ∙ kept.named) held
+      (subst (AreKeptQuotes file.net file.tree journal.history) (sym same_quotes) kept.quotes_kept)
+
+-- so it is beside users who have learnt what is known
+pub kept_learnt : {P A Plan : Type 0} {weights_stand : P → Meaning → Type 0}
+    {gains_stand : A → Meaning → Type 0} {plan_for : Plan → List Variable → GivenTree → Type 0}
+    {file : MarketFile} {prices : P} {rows : A} {plan : Plan} {members : List (Member A Plan)}
+    {ledger : LedgerOf} {journal : JournalOf} {payments : Option (List Payment)}
+    {till : Option TillOf}
+    {learnt : List (Member A Plan)}
+    → IsKept weights_stand gains_stand plan_for file prices rows plan members ledger journal
+    payments till
+    → names_of learnt ≡ names_of members → quotes_of learnt ≡ quotes_of members
+    → AreHeld gains_stand file.net file.tree journal.history learnt
+    → IsKept weights_stand gains_stand plan_for file prices rows plan learnt ledger journal payments
+    till
+kept_learnt kept same_names same_quotes held =
+    kept_unquoted _ _ _ _ _ _ _ _ _ _ _ _ _ _ kept (λ m stands. stands) same_names same_quotes held
 
 -- an answer behind users who have learnt what is known, and were quoted the same, is one behind those before
 pub answered_learnt : {A Plan : Type 0} (file : MarketFile) (ledger : LedgerOf) (journal : JournalOf) (members learnt : List (Member A Plan))

@@ -1,17 +1,12 @@
 -- A market is kept with one question more.
-use Rattle.std.specs.Prelude.{◌≡◌, ℕ, ◌+◌, ◌≤◌, List, [], ◌∷◌, ◌++◌, length, false, Option}
+use Rattle.std.specs.Prelude.{◌≡◌, ℕ, ◌+◌, List, [], ◌∷◌, ◌++◌, length, false, Option}
 use Rattle.std.specs.Prelude.{Some, None, map, option_map, slice_get}
-use Rattle.std.specs.List.{AllByRecursion}
-use Rattle.std.proofs.Common.{refl, sym, ap, ap₂, ◌∙◌, subst, arith, inl, inr}
+use Rattle.std.proofs.Common.{refl, sym, ap, ap₂, ◌∙◌, subst, inl, inr}
 use Rattle.std.proofs.lemmas.List.{length_push, length-map}
-use Rattle.mk_net.specs.Network.{Variable, IsNetwork}
-use Rattle.mk_exact.specs.History.{Entry, Addition, Add as Adds, users, trades}
-use Rattle.mk_exact.specs.History.{deposited, withdrawn, join_in, is_settled, revision}
+use Rattle.mk_net.specs.Network.{Variable}
+use Rattle.mk_exact.specs.History.{Entry, Addition, Add as Adds, users}
+use Rattle.mk_exact.specs.History.{join_in, is_settled, revision}
 use Rattle.mk_exact.specs.Market.{Market, with_entry}
-use Rattle.mk_exact.specs.Proper.{IsProper}
-use Rattle.mk_exact.proofs.After.{trades_kept}
-use Rattle.mk_grown.proofs.Grows.{proper_more}
-use Rattle.mk_tree.specs.Checked.{IsTreeOf}
 use Rattle.mk_tree.specs.Given.{GivenTree}
 use Rattle.mk_file.specs.declared.market_file.MarketFile.{MarketFile}
 use Rattle.mk_file.specs.MarketOf.{market_of}
@@ -20,7 +15,7 @@ use Rattle.mk_beliefs.specs.Meanings.{weights_of, rows_of}
 use Rattle.mk_beliefs.proofs.Grown.{weights_grow}
 use Rattle.mk_beliefs.proofs.Initials.{rows_grow}
 use Rattle.mk_assets.specs.declared.assets.Assets.{Assets}
-use Rattle.mk_assets.specs.Holdings.{Holds, max_bits}
+use Rattle.mk_assets.specs.Holdings.{Holds}
 use Rattle.mk_cash.specs.declared.ledger.Account.{Account}
 use Rattle.mk_cash.specs.Accounts.{account_of, LedgerOf}
 use Rattle.mk_addition.specs.Adds.{IsAddText}
@@ -32,8 +27,6 @@ use Rattle.mk_reply.specs.declared.reply.Reply.{Reply}
 use Rattle.mk_reply.specs.declared.reply.Reply.TheVariants.{Added, Refused}
 use Rattle.mk_rules.specs.Additions.{addition_of as addition_in}
 use Rattle.mk_rules.specs.Refusals.{first_refusal}
-use Rattle.mk_rules.specs.Standings.{IsInClique}
-use Rattle.mk_rules.proofs.Keeps.{inside_after}
 use Rattle.mk_restore.specs.Laws.{IsSafe}
 use Rattle.mk_restore.specs.Restoring.{IsFit}
 use Rattle.mk_restore.proofs.Safe.{fit_keeps_safe}
@@ -44,21 +37,18 @@ use Rattle.mk_history.specs.Entries.{addition_of}
 use Rattle.mk_record.specs.Journals.{JournalOf}
 use Rattle.mk_record.specs.Members.{names_of, assets_of, quotes_of}
 use Rattle.mk_record.proofs.Appends.{not_found}
-use Rattle.mk_replay.specs.Placed.{IsPlaced}
-use Rattle.mk_market.specs.declared.adding.Regrown.{Regrown}
+use Rattle.mk_parts.specs.declared.adding.Regrown.{Regrown}
 use Rattle.mk_market.specs.Points.{AreAccounts}
 use Rattle.mk_market.specs.Trading.{Trading, IsAnswered}
-use Rattle.mk_market.specs.Suited.{SuitsLonger}
-use Rattle.mk_market.specs.inner.Adding.{IsLonger, AreRegrown, HasGrown}
+use Rattle.mk_parts.specs.Adding.{AreRegrown}
+use Rattle.mk_market.specs.inner.Adding.{HasGrown}
 use Rattle.mk_market.specs.inner.Restored.{IsTakenBack}
 use Rattle.mk_asking.specs.Keeping.{IsKeptQuote, TakesAsMuch}
 use Rattle.mk_market.specs.inner.Keeping.{quoted, standing_of, IsKept}
 use Rattle.mk_market.proofs.Accounted.{accounts_kept}
 use Rattle.mk_market.proofs.Apart.{EachOwns, each_owns_then}
 use Rattle.mk_market.proofs.Growing.{SafeIn, quote_later}
-use Rattle.mk_market.proofs.Homes.{trades_have}
 use Rattle.mk_asking.proofs.Owned.{holding_same}
-use Rattle.mk_market.proofs.Owned.{few_moved}
 use Rattle.mk_market.proofs.Replies.{answer_allowed, refused_stays, unsettled}
 use Rattle.mk_market.proofs.TakenBack.{taken_back}
 use Rattle.mk_replay.specs.Tills.{TillOf}
@@ -70,46 +60,6 @@ pub as_many_users : {A Plan : Type 0} (members : List (Member A Plan)) (H : List
 as_many_users {A} {Plan} members H named =
     sym (length-map members (λ (m : Member A Plan). m.name))
     ∙ ap (λ (all : List (List ℕ)). length all) named
-
--- no user moved more bits than assets count
-pub few_bits : (market : Market) (H : List Entry) → IsSafe market H → (u : ℕ)
-    → (deposited H u ≤ max_bits) × (withdrawn H u ≤ max_bits)
-few_bits market H safe u =
-    let few = few_moved (length (users H)) u H safe.bounded.transfers_fit in (
-      omega (arith, few.0, safe.bounded.within.few_transfers),
-      omega (arith, few.1, safe.bounded.within.few_transfers),
-    )
-
--- an engine that suits each tree of the longer network suits that of the longer file
-pub suits_longer : (suits : List Variable → GivenTree → Type 0) (file longer : MarketFile)
-    (add : AddText) → IsLonger file (addition_in file.net add) longer
-    → SuitsLonger suits (market_of file) add → suits longer.net longer.tree
-suits_longer suits file longer add is each =
-    subst (λ (network : List Variable). suits network longer.tree) (sym is.net)
-    (each longer.tree
-    (subst (λ (network : List Variable). IsTreeOf network longer.tree) is.net is.tree))
-
--- the history of a safe market is placed in a file with one question more
-module _ (file longer : MarketFile) (a : Addition) (is : IsLonger file a longer) (H : List Entry)
-    (safe : IsSafe (market_of file) H) where
-  proper : IsProper longer.net H
-  proper =
-      subst (λ (network : List Variable). IsProper network H) (sym is.net)
-      (proper_more file.net a.variable H (subst IsNetwork is.net is.legal) safe.proper)
-
-  narrow : AllByRecursion (IsInClique (market_of longer).cliques) (trades H)
-  narrow =
-      let inside = inside_after (market_of file) H (Adds a) (safe.none_wide, safe.few_added) tt in
-      subst (λ (m : Market). AllByRecursion (IsInClique m.cliques) (trades H)) (sym is.market)
-      (subst (AllByRecursion (IsInClique (with_entry (Adds a) (market_of file)).cliques))
-      (trades_kept H (Adds a) refl) inside.0)
-
-  pub is_placed : IsPlaced longer.net longer.tree H
-  is_placed = record {
-    proper = proper;
-    few_trades = omega (arith, safe.bounded.few_trades, file.trades_most);
-    homes = trades_have longer (length (users H)) H (trades H) proper.trades_fit narrow;
-  }
 
 module _ (file : MarketFile) (H : List Entry) (add : AddText) (safe : IsSafe (market_of file) H)
     (text : IsAddText add) (none : first_refusal (market_of file) H (Add add) ≡ None) where

@@ -142,6 +142,17 @@ answered_refused {Own} tell old known same owns command other why (Err found) e 
     (subst (λ (t : Trading Own). IsAnswered t t command (Refused why)) same
     (refused_answered known owns command why other refusal))
 
+-- or by the record alone
+pub answered_by_record : {Own F : Type 0} → (tell : F → Reply) (old known : Trading Own)
+    → known ≡ old → EachOwns known
+    → (command : Command) → IsNoTrade command
+    → (why : Refusal) (result : Result F Refusal) → IsErrAnd result (λ e. e ≡ why)
+    → Some why ≡ first_of (refusals_by_record known.market known.standing.history command)
+    → IsAnsweredBy old old command result tell
+answered_by_record tell old known same owns command other why result e refusal =
+    answered_refused tell old known same owns command other why result e
+    (by_record known.market known.standing.history command why refusal)
+
 -- where no refusal meets a command the market is unsettled, but for one that asks what was paid
 pub unsettled_first : (b : Bool) (why : Refusal) (later : Option Refusal) → None ≡ or_else (fault_if b why) later → b ≡ false
 unsettled_first true why later none = absurd (cc)

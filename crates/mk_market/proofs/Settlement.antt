@@ -54,7 +54,7 @@ use Rattle.mk_market.specs.Points.{IsPaidOff, AreAccounts, ArePaidBy, Settlement
 use Rattle.mk_record.specs.Refused.{CanBeSettled}
 use Rattle.mk_asking.specs.Keeping.{AreHeld, TakesAsMuch}
 use Rattle.mk_market.specs.inner.Keeping.{quoted, standing_of, IsKept}
-use Rattle.mk_market.specs.inner.Paying.{ArePaid}
+use Rattle.mk_settling.specs.Paying.{ArePaid}
 use Rattle.mk_record.proofs.Appends.{there, not_found}
 use Rattle.mk_market.proofs.Growing.{kept_grown}
 use Rattle.mk_asking.proofs.Owned.{holding_same}

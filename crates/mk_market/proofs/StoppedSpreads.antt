@@ -1,5 +1,5 @@
 -- What stops a spread is refused, and leaves the market.
-use Rattle.std.specs.Prelude.{◌≡◌, ℕ, List, [], ◌∷◌, length, find, slice_index, Option, Some, None}
+use Rattle.std.specs.Prelude.{◌≡◌, ℕ, List, [], ◌∷◌, length, slice_index, Option, Some, None}
 use Rattle.std.proofs.Common.{sym, ap, ◌∙◌, subst}
 use Rattle.arrayvec.specs.ArrayVec.{ArrayVec}
 use Rattle.mk_net.specs.declared.words.PairText.{PairText}
@@ -36,13 +36,13 @@ use Rattle.mk_record.specs.Journals.{JournalOf}
 use Rattle.mk_record.specs.Members.{names_of, quotes_of}
 use Rattle.mk_record.specs.Refused.{IsUser, IsSpreadQuestionFor}
 use Rattle.mk_market.specs.Trading.{IsAnswered}
-use Rattle.mk_asking.specs.Keeping.{AreHeld, AreKeptQuotes}
+use Rattle.mk_asking.specs.Keeping.{AreHeld}
 use Rattle.mk_market.specs.inner.Keeping.{IsKept}
 use Rattle.mk_asking.specs.Quoting.{IsSpreadQuoteOf, IsTurnedDown}
 use Rattle.mk_asking.specs.Stopped.{IsSpreadDecidedBy, IsRefusedFor, MayStop, CanRefuseSpread}
 use Rattle.mk_market.proofs.Growing.{is_open}
 use Rattle.mk_market.proofs.Apart.{AreApart, each_owns, others_left}
-use Rattle.mk_market.proofs.Quotes.{trading, kept_quoted, answered_before}
+use Rattle.mk_market.proofs.Quotes.{trading, kept_quoted, kept_unquoted, answered_before}
 use Rattle.mk_market.proofs.Replies.{refused_answered, stopped_by_states, unrefused}
 use Rattle.mk_asking.proofs.SpreadQuotes.{kept_quote}
 use Rattle.mk_asking.proofs.StoppedSpreads.{decided_first, undecided, impossible_first}
@@ -61,24 +61,10 @@ module _ {P A Plan : Type 0} (weights_stand : P → Meaning → Type 0) (gains_s
     pub held_beside : AreHeld gains_stand file.net file.tree journal.history new_members
 
   pub kept_beside : AreBeside → quotes_of new_members ≡ quotes_of members → IsKept weights_stand gains_stand plan_for file new_prices rows plan new_members ledger journal payments till
-  kept_beside are same = record {
-    legal = kept.legal;
-    tree = kept.tree;
-    planned = kept.planned;
-    prices_stand = are.prices_beside (weights_of file.net file.tree journal.history) kept.prices_stand;
-    rows_stand = kept.rows_stand;
-    named = are.names_beside ∙ kept.named;
-    held = are.held_beside;
-    quotes_kept = subst (AreKeptQuotes file.net file.tree journal.history) (sym same) kept.quotes_kept;
-    accounts_kept = kept.accounts_kept;
-    ledger_room = kept.ledger_room;
-    safe = kept.safe;
-    max_trades = kept.max_trades;
-    max_users = kept.max_users;
-    max_transfers = kept.max_transfers;
-    room = kept.room;
-    till_room = kept.till_room;
-  }
+  kept_beside are same =
+      kept_unquoted weights_stand gains_stand plan_for file prices new_prices rows plan members
+      new_members ledger journal payments till kept are.prices_beside are.names_beside same
+      are.held_beside
 
   module _ (name : List ℕ) (user : ℕ) (is_user : IsUser journal.history name user) (v : List ℕ) (condition : ArrayVec PairText) (spread : SpreadAsked)
       (is_question : IsSpreadQuestionFor (market_of file) file.tree journal.history v condition.items spread) where

@@ -11,7 +11,7 @@ use Rattle.mk_market.specs.declared.restoring.RestoreFault.{RestoreFault}
 use Rattle.mk_market.specs.declared.restoring.RestoreFault.TheVariants.{Unfit, Memory}
 use Rattle.mk_market.specs.Trading.{Trading}
 use Rattle.mk_market.specs.Points.{ArePaidBy}
-use Rattle.mk_market.specs.inner.Restored.{IsLeft, IsTakenBack, IsTried}
+use Rattle.mk_market.specs.inner.Restored.{IsLeft, IsTakenBack, IsFoundAgain, IsTried}
 
 -- a reply that does not agree, and a refusal that applies again
 pub left_by_reply : {Own : Type 0} → (now : Trading Own) (command : Command) (reply : Reply)
@@ -34,6 +34,21 @@ pub tried_unfit : {Own : Type 0} → (old new : Trading Own) (command : Command)
 tried_unfit old new command reply (Ok done) told left = absurd told
 tried_unfit old new command reply (Err Unfit) told left = left
 tried_unfit old new command reply (Err Memory) told left = absurd (cc)
+
+-- a command that is refused fits with no reply
+pub refused_again : {Own F : Type 0} → (tell : F → Reply) (now : Trading Own) (command : Command)
+    (why : Refusal) (result : Result F Refusal) → IsErrAnd result (λ e. e ≡ why)
+    → Some why ≡ first_of (refusals_again now.market now.standing.history command)
+    → IsFoundAgain now now command result tell
+refused_again tell now command why (Ok found) told refused = absurd told
+refused_again tell now command why (Err found) told refused =
+    λ reply. left_by_refusal now command reply why refused
+
+-- a reply that tells what was found is taken back as what was found
+pub as_found : {Own : Type 0} → (old new : Trading Own) (command : Command) (reply given : Reply)
+    → reply ≡ given → IsTakenBack old new command given → IsTakenBack old new command reply
+as_found old new command reply given told back =
+    subst (λ (r : Reply). IsTakenBack old new command r) (sym told) back
 
 -- a change is taken back as its command does it, with the reply that its command gives
 pub taken_back : {Own : Type 0} → (old new : Trading Own) (command : Command)

@@ -48,7 +48,8 @@ use Rattle.mk_market.proofs.Growing.{is_open, kept_grown}
 use Rattle.mk_asking.proofs.Learnt.{holds_still}
 use Rattle.mk_asking.proofs.Owned.{names_same, quotes_same, held_one}
 use Rattle.mk_market.proofs.Owned.{withdrawal_holding}
-use Rattle.mk_market.proofs.Owned.{withdrawal_others, few_moved}
+use Rattle.mk_market.proofs.Owned.{withdrawal_others}
+use Rattle.mk_parts.proofs.Moved.{few_moved}
 use Rattle.mk_market.proofs.Accounted.{paid_set, accounts_withdrawn}
 use Rattle.mk_market.proofs.Replies.{answer_allowed, none_appended, unsettled}
 use Rattle.mk_market.proofs.Weaker.{most_when}

@@ -1,6 +1,5 @@
 -- What only proofs and private contracts cite.
 pub mod Keeping
-pub mod Paying
 pub mod Answering
 pub mod Restored
 pub mod Adding

@@ -3,12 +3,12 @@
 use mk_cash::Ledger;
 use mk_engine::Engine;
 use mk_file::MarketFile;
-use mk_net::NoMemory;
+use mk_net::{Name, Network};
 use mk_record::{Journal, Users};
 use mk_replay::Till;
 use mk_reply::Payments;
 use mk_semiring::{MinProd, SumProd};
-use std::alloc::Global;
+use mk_tree::Tree;
 use std::marker::Model;
 
 /// A market in use: its file with what was added to it, an engine with the weights of all states and
@@ -47,13 +47,15 @@ impl<P: Engine<SumProd>, A: Engine<MinProd>> Model for Market<P, A> {
 }
 
 impl<P: Engine<SumProd>, A: Engine<MinProd>> Market<P, A> {
-    ghost use Rattle.std.specs.Prelude.{◌≡◌, ◌≤◌, length};
+    ghost use Rattle.std.specs.Prelude.{◌≡◌, ◌≤◌, ◌<◌, length, position, IfSome};
     ghost use Rattle.mk_net.specs.Bounds.{max_points_per_bit};
     ghost use Rattle.mk_sets.specs.Sets.{max_variables};
-    ghost use Rattle.mk_exact.specs.History.{additions};
-    ghost use Rattle.mk_file.specs.MarketOf.{market_of};
+    ghost use Rattle.mk_exact.specs.History.{additions, users};
+    ghost use Rattle.mk_net.specs.Texts.{same_text};
+    ghost use Rattle.mk_tree.specs.Checked.{IsTreeOf};
     ghost use Rattle.mk_restore.specs.Laws.{IsSafe};
     ghost use Rattle.mk_market.specs.Points.{AreAccounts};
+    ghost use Rattle.mk_market.specs.Homes.{HaveHomes};
 
     /// How many variables the market has.
     pub fn variables(&self) -> u32
@@ -101,5 +103,31 @@ impl<P: Engine<SumProd>, A: Engine<MinProd>> Market<P, A> {
         ensures accounts { AreAccounts self.now.market (self.now.standing).history result.now.accounts }
     {
         &self.ledger
+    }
+
+    /// The network of its variables, with those that were added behind the others.
+    pub fn network(&self) -> &Network
+        ensures { result.now ≡ (self.now.market).network }
+    {
+        &self.file.net
+    }
+
+    /// The tree of its cliques, with those that were added behind the others. A clique holds the
+    /// variables of each trade together.
+    #[tactic(auto, using(crate::proofs::Homes::safe_has_homes))]
+    pub fn tree(&self) -> &Tree
+        ensures tree { IsTreeOf (self.now.market).network result.now }
+        ensures homes { HaveHomes result.now (self.now.standing).history }
+    {
+        &self.file.tree
+    }
+
+    /// The number of the user of a name, from 0 in the order of joining. None exactly where nobody
+    /// who joined has it.
+    pub fn user_number(&self, name: &Name) -> Option<u32>
+        ensures place { result ≡ position (same_text name.now) (users (self.now.standing).history) }
+        ensures joined { IfSome result (λ user. user < length (users (self.now.standing).history)) }
+    {
+        self.users.find(name)
     }
 }

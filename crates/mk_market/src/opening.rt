@@ -6,10 +6,11 @@ use mk_engine::Engine;
 use mk_file::MarketFile;
 use mk_history::Limits;
 use mk_net::NoMemory;
+use mk_parts::weighed;
 use mk_record::{Journal, Users};
 use mk_replay::Till;
 use mk_reply::Payments;
-use mk_semiring::{MinProd, Semiring, SumProd};
+use mk_semiring::{MinProd, SumProd};
 use std::alloc::Global;
 
 impl<P: Engine<SumProd>, A: Engine<MinProd>> Market<P, A> {
@@ -72,27 +73,4 @@ impl<P: Engine<SumProd>, A: Engine<MinProd>> Market<P, A> {
             till: Some(till),
         })
     }
-}
-
-ghost use Rattle.std.specs.Prelude.{◌≡◌, [], IfOk};
-ghost use Rattle.mk_net.specs.Network.{IsNetwork};
-ghost use Rattle.mk_tree.specs.Checked.{IsTreeOf};
-ghost use Rattle.mk_beliefs.specs.Meanings.{rows_of};
-
-/// An engine with the rows of each variable, once.
-fn weighed<R: Semiring, E: Engine<R>>(
-    alloc: Global,
-    file: &MarketFile,
-    plan: &E::Plan,
-) -> Result<E, NoMemory>
-    requires tree { IsTreeOf file.now.net file.now.tree }
-    requires plan { E.plan_for plan.now file.now.net file.now.tree }
-    ensures stands { IfOk result (λ engine. E.stands_for engine (rows_of file.now.net file.now.tree [])) }
-    ensures network { IfOk result (λ _. IsNetwork file.now.net) }
-{
-    let mut engine = E::start(alloc, plan)?;
-    for variable in 0..file.net.variables() {
-        engine.weigh(&file.net, variable);
-    }
-    Ok(engine)
 }

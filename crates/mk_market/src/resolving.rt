@@ -1,18 +1,20 @@
 //! Resolutions.
 
 use crate::market::Market;
-use mk_asking::can_come;
+use crate::restoring::RestoreFault;
+use mk_asking::{can_come, home_of};
 use mk_engine::Engine;
-use mk_file::MarketFile;
-use mk_net::{Pair, PairText};
+use mk_net::PairText;
 use mk_record::refuse_resolve;
 use mk_reply::{Refusal, Reply};
 use mk_semiring::{MinProd, SumProd};
+use mk_told::tells_resolution;
 
 impl<P: Engine<SumProd>, A: Engine<MinProd>> Market<P, A> {
     ghost use Rattle.mk_command.specs.declared.command.Command.TheVariants.{Resolve};
     ghost use Rattle.mk_market.specs.Trading.{IsAnswered};
     ghost use Rattle.mk_market.specs.inner.Answering.{IsAnsweredBy};
+    ghost use Rattle.mk_market.specs.inner.Restored.{IsFoundAgain, IsTried};
     ghost use Rattle.mk_reply.specs.declared.reply.Reply.TheVariants as reply;
 
     /// Answers that a variable has a value.
@@ -28,7 +30,9 @@ impl<P: Engine<SumProd>, A: Engine<MinProd>> Market<P, A> {
     /// A variable has a value from now on. The engines of prices and of initial weights learn it, and
     /// a user's assets when they are asked. It gives the revision.
     fn resolve(&mut self, words: &PairText) -> Result<u64, Refusal>
-        ensures { IsAnsweredBy self.old self.new (Resolve words.now)
+        ensures answered { IsAnsweredBy self.old self.new (Resolve words.now)
+            result (λ at. reply.Resolved words.now at) }
+        ensures again { IsFoundAgain self.old self.new (Resolve words.now)
             result (λ at. reply.Resolved words.now at) }
     {
         let pair = refuse_resolve(&self.file, &self.journal, words)?;
@@ -41,18 +45,19 @@ impl<P: Engine<SumProd>, A: Engine<MinProd>> Market<P, A> {
         self.journal.resolve(pair);
         Ok(self.journal.revision())
     }
-}
 
-ghost use Rattle.std.specs.Prelude.{◌≡◌, [], ◌∷◌, true, is_some, Some};
-ghost use Rattle.mk_tree.specs.Given.{home};
-
-/// The home of a pair of the network.
-pub fn home_of(file: &MarketFile, pair: Pair) -> u32
-    requires { is_some (home file.now.tree (pair ∷ [])) ≡ true }
-    ensures { home file.now.tree (pair ∷ []) ≡ Some result }
-{
-    let Some(home) = file.tree.pair_home(pair) else {
-        unreachable!()
-    };
-    home
+    /// A variable has a value again.
+    pub(crate) fn restore_resolution(
+        &mut self,
+        words: &PairText,
+        reply: &Reply,
+    ) -> Result<(), RestoreFault>
+        ensures { IsTried self.old self.new (Resolve words.now) reply.now result }
+    {
+        if !tells_resolution(&self.journal, words, reply) {
+            return Err(RestoreFault::Unfit);
+        }
+        self.resolve(words)?;
+        Ok(())
+    }
 }

@@ -1,16 +1,11 @@
 //! Taking back the changes that a store gives.
 
 use crate::market::Market;
-use crate::resolving::home_of;
-use mk_asking::can_come;
-use mk_assets::Assets;
 use mk_command::CommandRef;
 use mk_engine::Engine;
-use mk_net::{Name, PairText};
-use mk_record::{EditWish, SpreadWish, refuse_resolve, refuse_transfer, refuse_user};
+use mk_record::{EditWish, SpreadWish};
 use mk_reply::{Refusal, Reply};
 use mk_semiring::{MinProd, SumProd};
-use mk_told::{tells_deposit, tells_join, tells_resolution, tells_withdrawal};
 use std::alloc::Global;
 
 /// Why a change is not taken back.
@@ -36,8 +31,6 @@ impl From<Refusal> for RestoreFault {
 impl<P: Engine<SumProd>, A: Engine<MinProd>> Market<P, A> {
     ghost use Rattle.std.specs.Prelude.{◌≡◌, Err, IfOk, OnOk, OnErr};
     ghost use Rattle.mk_command.specs.Commands.{command_of};
-    ghost use Rattle.mk_command.specs.declared.command.Command.TheVariants.{User, Deposit};
-    ghost use Rattle.mk_command.specs.declared.command.Command.TheVariants.{Withdraw, Resolve};
     ghost use Rattle.mk_reply.specs.Replies.{IsReply};
     ghost use Rattle.mk_rules.specs.Transcript.{OfCommand, after, market_after};
     ghost use Rattle.mk_restore.specs.Restoring.{IsFit};
@@ -126,83 +119,5 @@ impl<P: Engine<SumProd>, A: Engine<MinProd>> Market<P, A> {
             CommandRef::Add { addition } => self.restore_add(alloc, addition, reply),
             _ => Err(RestoreFault::Unfit),
         }
-    }
-
-    /// A user joins again. All memory is taken before anything changes.
-    fn restore_user(
-        &mut self,
-        alloc: Global,
-        name: &Name,
-        reply: &Reply,
-    ) -> Result<(), RestoreFault>
-        ensures { IsTried self.old self.new (User name.now) reply.now result }
-    {
-        if !tells_join(&self.journal, name, reply) {
-            return Err(RestoreFault::Unfit);
-        }
-        refuse_user(&self.journal, &self.users, name)?;
-        let Ok(assets) = Assets::start(alloc, &self.plan, &self.file.net) else {
-            return Err(RestoreFault::Memory);
-        };
-        let Ok(()) = self.users.join(*name, assets) else {
-            return Err(RestoreFault::Memory);
-        };
-        let _ = name.bytes();
-        self.ledger.join();
-        self.journal.join(*name);
-        Ok(())
-    }
-
-    /// A user pays in again.
-    fn restore_deposit(&mut self, name: &Name, bits: u32, reply: &Reply) -> Result<(), RestoreFault>
-        ensures { IsTried self.old self.new (Deposit name.now bits) reply.now result }
-    {
-        if !tells_deposit(&self.journal, name, bits, reply) {
-            return Err(RestoreFault::Unfit);
-        }
-        let user = refuse_transfer(&self.journal, &self.users, name, bits)?;
-        self.users.assets(user).deposit(bits);
-        self.ledger
-            .deposit(user, self.file.points_per_bit as u64 * bits as u64);
-        self.journal.deposit(user, bits);
-        Ok(())
-    }
-
-    /// A user takes out again, covered or not.
-    fn restore_withdrawal(
-        &mut self,
-        name: &Name,
-        bits: u32,
-        reply: &Reply,
-    ) -> Result<(), RestoreFault>
-        ensures { IsTried self.old self.new (Withdraw name.now bits) reply.now result }
-    {
-        if !tells_withdrawal(&self.journal, name, bits, reply) {
-            return Err(RestoreFault::Unfit);
-        }
-        let user = refuse_transfer(&self.journal, &self.users, name, bits)?;
-        self.users.assets(user).withdraw(bits);
-        self.ledger
-            .withdraw(user, self.file.points_per_bit as u64 * bits as u64);
-        self.journal.withdraw(user, bits);
-        Ok(())
-    }
-
-    /// A variable has a value again.
-    fn restore_resolution(&mut self, words: &PairText, reply: &Reply) -> Result<(), RestoreFault>
-        ensures { IsTried self.old self.new (Resolve words.now) reply.now result }
-    {
-        if !tells_resolution(&self.journal, words, reply) {
-            return Err(RestoreFault::Unfit);
-        }
-        let pair = refuse_resolve(&self.file, &self.journal, words)?;
-        let home = home_of(&self.file, pair);
-        if !can_come(&mut self.prices, &self.file.net, home, pair) {
-            return Err(RestoreFault::Unfit);
-        }
-        self.prices.know(home, pair);
-        self.rows.know(home, pair);
-        self.journal.resolve(pair);
-        Ok(())
     }
 }

@@ -1,6 +1,7 @@
 //! Spreads over the values of a variable, and their bounds.
 
 use crate::market::Market;
+use crate::restoring::RestoreFault;
 use arrayvec::ArrayVec;
 use mk_asking::{
     Stopped, fresh_spread_quote, judge_spread, ratio_of_spread, refuse_stopped, trade,
@@ -10,12 +11,19 @@ use mk_net::{Name, PairText};
 use mk_record::{LastQuote, SpreadWish, refuse_bounds, refuse_spread};
 use mk_reply::{Intervals, Refusal, Reply};
 use mk_semiring::{MinProd, SumProd};
+use mk_told::told_factors;
 
 impl<P: Engine<SumProd>, A: Engine<MinProd>> Market<P, A> {
     ghost use Rattle.mk_command.specs.declared.command.Command.TheVariants.{Bounds, Spread};
     ghost use Rattle.mk_market.specs.Trading.{IsAnswered};
     ghost use Rattle.mk_market.specs.inner.Answering.{IsAnsweredBy};
+    ghost use Rattle.mk_market.specs.inner.Restored.{IsTried};
     ghost use Rattle.mk_reply.specs.declared.reply.Reply.TheVariants as reply;
+    ghost use Rattle.mk_reply.specs.Replies.{IsReply};
+    ghost use Rattle.std.specs.Prelude.{◌≡◌, ◌≤◌, ℕ, length};
+    ghost use Rattle.arrayvec.specs.ArrayVec.{ArrayVec as Several};
+    ghost use Rattle.mk_net.specs.Bounds.{max_condition, max_values};
+    ghost use Rattle.mk_net.specs.declared.words.PairText.{PairText as Words};
 
     /// Answers to which shares a user may move each value of a variable.
     pub(crate) fn answer_bounds(
@@ -145,5 +153,36 @@ impl<P: Engine<SumProd>, A: Engine<MinProd>> Market<P, A> {
             ratio,
         );
         Ok((factors, self.journal.revision()))
+    }
+
+    /// A user trades by a spread again, of the factors that the reply tells.
+    pub(crate) fn restore_spread(
+        &mut self,
+        name: &Name,
+        wish: &SpreadWish,
+        reply: &Reply,
+    ) -> Result<(), RestoreFault>
+        requires few_pairs { length wish.now.condition.now ≤ max_condition }
+        requires few_shares { length wish.now.to.now ≤ max_values }
+        requires told { IsReply reply.now }
+        ensures { (condition : Several Words) (to : Several ℕ)
+            → condition.items ≡ wish.now.condition.now → to.items ≡ wish.now.to.now
+            → IsTried self.old self.new (Spread name.now wish.now.variable.now condition to
+            wish.now.at) reply.now result }
+    {
+        let Some(factors) = told_factors(&self.journal, wish.to, reply) else {
+            return Err(RestoreFault::Unfit);
+        };
+        let request = refuse_spread(&self.file, &self.journal, &self.users, name, wish)?;
+        let ratio = ratio_of_spread(&request.question, factors.as_slice());
+        trade(
+            &mut self.prices,
+            &mut self.users,
+            &mut self.journal,
+            request.user,
+            request.home,
+            ratio,
+        );
+        Ok(())
     }
 }

@@ -3,10 +3,10 @@
 use crate::market::Market;
 use arrayvec::ArrayVec;
 use mk_answers::{position_of, prices_of};
-use mk_asking::{learn, refuse_condition};
+use mk_asking::{learn, open_questions, refuse_condition};
 use mk_engine::Engine;
 use mk_net::{Name, PairText};
-use mk_record::{Journal, not_settled, refuse_bounds, refuse_prices};
+use mk_record::{not_settled, refuse_bounds, refuse_prices};
 use mk_reply::{Refusal, Reply, Spans};
 use mk_semiring::{MinProd, SumProd};
 
@@ -120,23 +120,4 @@ impl<P: Engine<SumProd>, A: Engine<MinProd>> Market<P, A> {
             questions,
         }
     }
-}
-
-ghost use Rattle.std.specs.Prelude.{◌≡◌, ◌≤◌, not};
-ghost use Rattle.std.specs.List.{count_by};
-ghost use Rattle.mk_states.specs.States.{numbers_below};
-ghost use Rattle.mk_rules.specs.Refusals as rules;
-
-/// How many of so many variables no resolution gave a value.
-fn open_questions(journal: &Journal, variables: u32) -> u32
-    ensures { result ≡ count_by (λ v. not (rules.is_resolved journal.now.history v))
-        (numbers_below variables) }
-{
-    let mut open = 0;
-    for variable in 0..variables {
-        if !journal.is_resolved(variable) {
-            open += 1;
-        }
-    }
-    open
 }

@@ -9,7 +9,6 @@ use Rattle.mk_file.specs.MarketOf.{market_of}
 use Rattle.mk_engine.specs.Meaning.{Meaning}
 use Rattle.mk_beliefs.specs.Meanings.{weights_of, rows_of}
 use Rattle.mk_cash.specs.Accounts.{LedgerOf}
-use Rattle.mk_quote.specs.declared.quote.Quote.{Quote}
 use Rattle.mk_quote.specs.Quotes.{question_of, revision_of, limits_of}
 use Rattle.mk_quote.specs.Spreads as spreads
 use Rattle.mk_reply.specs.declared.payments.Payment.{Payment}

@@ -1,6 +1,7 @@
 -- How a change is taken back.
 use Rattle.std.specs.Prelude.{◌≡◌, Result, Ok, Err}
 use Rattle.mk_command.specs.declared.command.Command.{Command}
+use Rattle.mk_reply.specs.declared.refusal.Refusal.{Refusal}
 use Rattle.mk_reply.specs.declared.reply.Reply.{Reply}
 use Rattle.mk_rules.specs.Transcript.{OfCommand, after, market_after}
 use Rattle.mk_restore.specs.Restoring.{IsFit}
@@ -22,6 +23,13 @@ module _ {Own : Type 0} where
   pub record IsLeft (old new : Trading Own) (command : Command) (reply : Reply) : Type 0 where
     pub same : new ≡ old
     pub unfit : IsFit old.market old.standing.history command reply → ⊥
+
+  -- what a command finds is taken back by the reply that tells it, and one that is refused fits
+  -- with no reply
+  abbrev pub IsFoundAgain : {F : Type 0} → Trading Own → Trading Own → Command → Result F Refusal
+      → (F → Reply) → Type 0
+  IsFoundAgain old new command (Ok found) tell = IsTakenBack old new command (tell found)
+  IsFoundAgain old new command (Err why) tell = (reply : Reply) → IsLeft old new command reply
 
   -- what a change leaves, and why
   abbrev pub IsTried : Trading Own → Trading Own → Command → Reply → Result Unit RestoreFault

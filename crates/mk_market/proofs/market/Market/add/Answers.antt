@@ -1,5 +1,5 @@
 use Rattle.std.specs.Prelude.{◌≡◌, None}
-use Rattle.std.proofs.Common.{refl, sym, ap, ◌∙◌, subst}
+use Rattle.std.proofs.Common.{sym, ap, ◌∙◌, subst}
 use Rattle.mk_exact.specs.History.{revision}
 use Rattle.mk_command.specs.declared.command.Command.TheVariants.{Add}
 use Rattle.mk_rules.specs.Refusals.{first_refusal}
@@ -22,20 +22,7 @@ returns-then-not-has_text g c =
 
 pub grow-requires-clause-unrefused : goal.grow-requires-clause-unrefused
 grow-requires-clause-unrefused g c =
-    subst (λ (t : Trading _). first_refusal t.market t.standing.history (Add c.args.add.now) ≡ None)
-    c.self.view_is (sym c.in_ok-refuse_add.ensures.refusal)
-
-pub grow-requires-clause-prices : goal.grow-requires-clause-prices
-grow-requires-clause-prices g c =
-    c.requires.prices c.args.add.now refl (c.has_text.ensures.0 c.if-not-has_text.false)
-    (subst (λ (t : Trading _). first_refusal t.market t.standing.history (Add c.args.add.now) ≡ None)
-    c.self.view_is (sym c.in_ok-refuse_add.ensures.refusal))
-
-pub grow-requires-clause-assets : goal.grow-requires-clause-assets
-grow-requires-clause-assets g c =
-    c.requires.assets c.args.add.now refl (c.has_text.ensures.0 c.if-not-has_text.false)
-    (subst (λ (t : Trading _). first_refusal t.market t.standing.history (Add c.args.add.now) ≡ None)
-    c.self.view_is (sym c.in_ok-refuse_add.ensures.refusal))
+    rw (← c.self.view_is) (sym c.in_ok-refuse_add.ensures.refusal)
 
 pub returns-in_default : goal.returns-in_default
 returns-in_default g c =
@@ -47,7 +34,7 @@ pub returns : goal.returns
 returns g c =
     grown_answered c.args.self.now c.grow.new.self c.args.add.now
     (c.has_text.ensures.0 c.if-not-has_text.false)
-    (sym (subst (λ (t : Trading _). first_refusal t.market t.standing.history (Add c.args.add.now)
-    ≡ None) c.self.view_is (sym c.in_ok-refuse_add.ensures.refusal)))
+    (subst (λ (t : Trading _). None ≡ first_refusal t.market t.standing.history (Add c.args.add.now))
+    c.self.view_is c.in_ok-refuse_add.ensures.refusal)
     c.in-Ok.ensures.ok c.revision.result
     (c.revision.ensures ∙ ap (λ (t : Trading _). revision t.standing.history) c.self-2.view_is)

@@ -1,7 +1,6 @@
 use Rattle.std.proofs.Common.{List, refl, sym, subst, ◌∙◌}
 use Rattle.mk_exact.specs.History.{users}
 use Rattle.mk_net.specs.declared.words.PairText.{PairText}
-use Rattle.mk_file.specs.MarketOf.{market_of}
 use Rattle.mk_command.specs.declared.command.Command.TheVariants.{Bounds as BoundsCommand}
 use Rattle.mk_quote.specs.Questions.{spread_in}
 use Rattle.mk_record.specs.declared.last_quote.LastQuote.TheVariants.{Bounds}
@@ -9,12 +8,12 @@ use Rattle.mk_asking.specs.declared.possible.Stopped.TheVariants.{Decided}
 use Rattle.mk_asking.specs.Stopped.{IsRefusedFor}
 use Rattle.mk_asking.proofs.Apart.{apart_quoted}
 use Rattle.mk_market.proofs.Apart.{each_owns}
-use Rattle.mk_market.proofs.Growing.{is_open}
+use Rattle.mk_market.proofs.Growing.{open_by}
 use Rattle.mk_asking.proofs.Lent.{in_range}
 use Rattle.mk_asking.proofs.Quotes.{quote_was_set}
 use Rattle.mk_market.proofs.Quotes.{kept_quoted}
 use Rattle.mk_market.proofs.Refiled.{refiled}
-use Rattle.mk_market.proofs.Replies.{answered_refused, by_record}
+use Rattle.mk_market.proofs.Replies.{answered_by_record}
 use Rattle.mk_asking.proofs.SpreadQuotes.{kept_quote}
 use Rattle.mk_market.proofs.Spreads.{question_for, bounds_answered}
 use Rattle.mk_market.proofs.StoppedSpreads.{kept_beside, can_refuse, bounds_known, decided_answered, bounds_unrefused}
@@ -22,13 +21,10 @@ use Rattle.mk_market.proofs.market.Market.bounds.Goals as goal
 
 pub returns-in_err-request : goal.returns-in_err-request
 returns-in_err-request g c =
-    let command = BoundsCommand c.args.name.now c.args.variable.now c.args.condition.now in
-    answered_refused _ c.args.self.now _ c.self.view_is
-    (each_owns _ _ c.self.invariant.named) command tt c.in_err-request.field-0.0
-    c.from_residual.result
-    c.from_residual.ensures.1 (by_record (market_of c.self.inside.file)
-    c.self.inside.journal.history command c.in_err-request.field-0.0
-    (c.in_err-request.ensures.refusal c.args.condition.now (sym c.as_slice.ensures.value)))
+    answered_by_record _ c.args.self.now _ c.self.view_is (each_owns _ _ c.self.invariant.named)
+    (BoundsCommand c.args.name.now c.args.variable.now c.args.condition.now) tt
+    c.in_err-request.field-0.0 c.from_residual.result c.from_residual.ensures.1
+    (c.in_err-request.ensures.refusal c.args.condition.now (sym c.as_slice.ensures.value))
 
 pub refuse_stopped-requires : goal.refuse_stopped-requires
 refuse_stopped-requires g c =
@@ -66,7 +62,7 @@ returns-in-Err g c =
     let H = i.journal.history in
     let question = question_for i.file H c.args.variable.now c.as_slice.result.now c.args.condition.now spread c.as_slice.ensures.value found.ensures.question in
     let none = found.ensures.refusal c.args.condition.now (sym c.as_slice.ensures.value) in
-    let opened = is_open g.P.Engine.stands_for g.A.Engine.stands_for g.A.Engine.plan_for i.file i.prices i.rows i.plan i.users i.ledger i.journal i.payments i.till c.self.invariant in
+    let opened = open_by c.self.invariant in
     let refused = subst (λ (words : List PairText). IsRefusedFor i.file.net H c.args.variable.now words spread (Decided c.in-Err.why) c.refuse_stopped.result) c.as_slice-in-Err.ensures.value
     (c.refuse_stopped.ensures.refusal i.file.tree H (c.in-Err.ensures.prices _ c.self.invariant.prices_stand) opened c.in-Err.ensures.quote) in
     rw (← c.self.view_is)

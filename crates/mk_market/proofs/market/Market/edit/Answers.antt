@@ -16,7 +16,7 @@ use Rattle.mk_market.proofs.Stopping.{edit_known, edit_unrefused, edit_stopped}
 use Rattle.mk_file.specs.MarketOf.{market_of}
 use Rattle.mk_beliefs.specs.Meanings.{weights_of}
 use Rattle.mk_market.proofs.Edited.{left_by_quote, last_is, edit_refused_answered, kept_quote, beyond_answered, hit_units, miss_units, trade_has_units, trade_fits, trade_next, trade_answered}
-use Rattle.mk_market.proofs.Growing.{is_open}
+use Rattle.mk_market.proofs.Growing.{open_by}
 use Rattle.mk_asking.proofs.Lent.{in_range}
 use Rattle.mk_asking.proofs.Quotes.{quote_was_set}
 use Rattle.mk_market.proofs.Quotes.{kept_quoted, kept_unquoted}
@@ -51,7 +51,7 @@ returns-in-Err g c =
     c.args.name.now found.request.user found.ensures.user made.ensures.apart c.args.question.now c.args.to c.args.at c.refuse_decided.result
     found.ensures.refusal
     (c.refuse_decided.ensures.refusal i.file.net i.file.tree i.journal.history (made.ensures.prices (weights_of i.file.net i.file.tree i.journal.history) c.self.invariant.prices_stand)
-    (is_open g.P.Engine.stands_for g.A.Engine.stands_for g.A.Engine.plan_for i.file i.prices i.rows i.plan i.users i.ledger i.journal i.payments i.till c.self.invariant)
+    (open_by c.self.invariant)
     (record { named = found.ensures.question.named; known = edit_known i.file i.journal.history c.args.name.now c.args.question.now c.args.to c.args.at found.ensures.refusal }) c.in-Err.ensures.quote))
 
 pub invariant_of-self-in_default : goal.invariant_of-self-in_default
@@ -100,15 +100,8 @@ pub ratio_of_edit-ratio-requires-clause-hit : goal.ratio_of_edit-ratio-requires-
 ratio_of_edit-ratio-requires-clause-hit g c =
     let i = c.self.inside in
     let found = c.in_ok-request in
-    let made = c.present_quote in
     let ok = c.in-Ok in
-    let none = edit_unrefused i.file i.journal.history c.args.name.now c.args.question.now c.args.to
-    c.args.at found.request.question found.ensures.question.named
-    (left_by_quote i.file.net i.file.tree i.journal.history found.request.user
-    found.request.question ok.quote ok.ensures.quote) found.ensures.refusal in
-    let last = last_is i.users found.request.user found.request.question
-    (revision i.journal.history) made.result ok.quote ok.is made.ensures.last in
-    hit_units i.file i.journal (is_open g.P.Engine.stands_for g.A.Engine.stands_for g.A.Engine.plan_for i.file i.prices i.rows i.plan i.users i.ledger i.journal i.payments i.till c.self.invariant)
+    hit_units i.file i.journal (open_by c.self.invariant)
     c.args.name.now found.request.user found.ensures.user c.args.question.now found.request.question
     found.ensures.question ok.quote ok.ensures.quote c.args.to (c.in-Some.units.0)
     (c.in-Some.units.1)
@@ -118,15 +111,8 @@ pub ratio_of_edit-ratio-requires-clause-miss : goal.ratio_of_edit-ratio-requires
 ratio_of_edit-ratio-requires-clause-miss g c =
     let i = c.self.inside in
     let found = c.in_ok-request in
-    let made = c.present_quote in
     let ok = c.in-Ok in
-    let none = edit_unrefused i.file i.journal.history c.args.name.now c.args.question.now c.args.to
-    c.args.at found.request.question found.ensures.question.named
-    (left_by_quote i.file.net i.file.tree i.journal.history found.request.user
-    found.request.question ok.quote ok.ensures.quote) found.ensures.refusal in
-    let last = last_is i.users found.request.user found.request.question
-    (revision i.journal.history) made.result ok.quote ok.is made.ensures.last in
-    miss_units i.file i.journal (is_open g.P.Engine.stands_for g.A.Engine.stands_for g.A.Engine.plan_for i.file i.prices i.rows i.plan i.users i.ledger i.journal i.payments i.till c.self.invariant)
+    miss_units i.file i.journal (open_by c.self.invariant)
     c.args.name.now found.request.user found.ensures.user c.args.question.now found.request.question
     found.ensures.question ok.quote ok.ensures.quote c.args.to (c.in-Some.units.0)
     (c.in-Some.units.1)
@@ -138,14 +124,8 @@ trade-requires g c =
     let found = c.in_ok-request in
     let made = c.present_quote in
     let ok = c.in-Ok in
-    let none = edit_unrefused i.file i.journal.history c.args.name.now c.args.question.now c.args.to
-    c.args.at found.request.question found.ensures.question.named
-    (left_by_quote i.file.net i.file.tree i.journal.history found.request.user
-    found.request.question ok.quote ok.ensures.quote) found.ensures.refusal in
-    let last = last_is i.users found.request.user found.request.question
-    (revision i.journal.history) made.result ok.quote ok.is made.ensures.last in
     let units = c.in-Some.units in
-    let opened = is_open g.P.Engine.stands_for g.A.Engine.stands_for g.A.Engine.plan_for i.file i.prices i.rows i.plan i.users i.ledger i.journal i.payments i.till c.self.invariant in
+    let opened = open_by c.self.invariant in
     let hit = hit_units i.file i.journal opened c.args.name.now found.request.user
     found.ensures.user c.args.question.now found.request.question found.ensures.question
     ok.quote ok.ensures.quote
@@ -180,7 +160,7 @@ invariant_of-self-2 g c =
     let last = last_is i.users found.request.user found.request.question
     (revision i.journal.history) made.result ok.quote ok.is made.ensures.last in
     let ratio = c.ratio_of_edit-ratio in
-    let opened = is_open g.P.Engine.stands_for g.A.Engine.stands_for g.A.Engine.plan_for i.file i.prices i.rows i.plan i.users i.ledger i.journal i.payments i.till c.self.invariant in
+    let opened = open_by c.self.invariant in
     let history = c.trade.ensures.history ∙ ap
     (λ (r : TradeRatio). i.journal.history ++ Trade found.request.user r ∷ []) ratio.ensures in
     trade_kept g.P.Engine.stands_for g.A.Engine.stands_for g.A.Engine.plan_for i.file i.prices
@@ -217,7 +197,7 @@ returns g c =
     found.request.question ok.quote ok.ensures.quote) found.ensures.refusal in
     let last = last_is i.users found.request.user found.request.question
     (revision i.journal.history) made.result ok.quote ok.is made.ensures.last in
-    let opened = is_open g.P.Engine.stands_for g.A.Engine.stands_for g.A.Engine.plan_for i.file i.prices i.rows i.plan i.users i.ledger i.journal i.payments i.till c.self.invariant in
+    let opened = open_by c.self.invariant in
     rw (← c.self.view_is)
     (trade_answered i.file i.journal opened c.args.name.now found.request.user found.ensures.user
     c.args.question.now found.request.question found.ensures.question ok.quote ok.ensures.quote

@@ -4,10 +4,9 @@ use Rattle.mk_exact.specs.History.{users}
 use Rattle.mk_record.specs.declared.last_quote.LastQuote.TheVariants.{Limits}
 use Rattle.mk_asking.proofs.Apart.{apart_quoted}
 use Rattle.mk_market.proofs.Apart.{each_owns}
-use Rattle.mk_market.proofs.Replies.{answered_refused, by_record}
+use Rattle.mk_market.proofs.Replies.{answered_by_record}
 use Rattle.mk_market.proofs.Stopping.{limits_known, limits_unrefused, limits_stopped}
-use Rattle.mk_market.proofs.Growing.{is_open}
-use Rattle.mk_file.specs.MarketOf.{market_of}
+use Rattle.mk_market.proofs.Growing.{open_by}
 use Rattle.mk_beliefs.specs.Meanings.{weights_of}
 use Rattle.mk_market.proofs.Edited.{left_by_quote, kept_quote, limits_answered}
 use Rattle.mk_asking.proofs.Lent.{in_range}
@@ -17,13 +16,10 @@ use Rattle.mk_market.proofs.market.Market.limits.Goals as goal
 
 pub returns-in_err-request : goal.returns-in_err-request
 returns-in_err-request g c =
-    let i = c.self.inside in
-    answered_refused _ c.args.self.now _ c.self.view_is
-    (each_owns _ _ c.self.invariant.named) (Ask c.args.name.now c.args.question.now) tt
-    c.in_err-request.field-0.0 c.from_residual.result
-    c.from_residual.ensures.1 (by_record (market_of i.file) i.journal.history
-    (Ask c.args.name.now c.args.question.now) c.in_err-request.field-0.0
-    c.in_err-request.ensures.refusal)
+    answered_by_record _ c.args.self.now _ c.self.view_is (each_owns _ _ c.self.invariant.named)
+    (Ask c.args.name.now c.args.question.now) tt
+    c.in_err-request.field-0.0 c.from_residual.result c.from_residual.ensures.1
+    c.in_err-request.ensures.refusal
 
 pub invariant_of-self : goal.invariant_of-self
 invariant_of-self g c =
@@ -42,7 +38,7 @@ returns-in-Err g c =
     (made.ensures.names ∙ c.self.invariant.named)
     c.args.name.now found.request.user found.ensures.user made.ensures.apart c.args.question.now c.refuse_decided.result found.ensures.refusal
     (c.refuse_decided.ensures.refusal i.file.net i.file.tree i.journal.history (made.ensures.prices (weights_of i.file.net i.file.tree i.journal.history) c.self.invariant.prices_stand)
-    (is_open g.P.Engine.stands_for g.A.Engine.stands_for g.A.Engine.plan_for i.file i.prices i.rows i.plan i.users i.ledger i.journal i.payments i.till c.self.invariant)
+    (open_by c.self.invariant)
     (record { named = found.ensures.question.named; known = limits_known i.file i.journal.history c.args.name.now c.args.question.now found.ensures.refusal }) c.in-Err.ensures.quote))
 
 pub invariant_of-self-2 : goal.invariant_of-self-2

@@ -1,26 +1,13 @@
 use Rattle.std.proofs.Common.{ℕ, refl, sym, subst}
 use Rattle.std.specs.Prelude.{Option}
 use Rattle.mk_answers.specs.Results.{IsPriceFor}
-use Rattle.mk_net.specs.Events.{pairs_asked}
-use Rattle.mk_tree.proofs.Held.{home_is_held}
 use Rattle.mk_market.proofs.Apart.{each_owns}
-use Rattle.mk_market.proofs.Growing.{is_open}
-use Rattle.mk_market.proofs.Answers.{on_some, price_allowed, price_next}
+use Rattle.mk_market.proofs.Answers.{can_price, on_some, price_allowed, price_next}
 use Rattle.mk_market.proofs.market.Market.plain_price.Goals as goal
 
 pub price_of-requires : goal.price_of-requires
 price_of-requires g c =
-    let i = c.self.inside in
-    let found = c.in_ok-asked in
-    record {
-      tree = i.file.tree;
-      history = i.journal.history;
-      stands = c.self.invariant.prices_stand;
-      is_open = is_open g.P.Engine.stands_for g.A.Engine.stands_for g.A.Engine.plan_for i.file
-          i.prices i.rows i.plan i.users i.ledger i.journal i.payments i.till c.self.invariant;
-      answered = found.ensures.question.answered;
-      held = home_is_held i.file.tree found.home (pairs_asked found.asked) found.ensures.home;
-    }
+    can_price c.self.invariant c.in_ok-asked.ensures.question c.in_ok-asked.ensures.home
 
 pub returns-clause-priced : goal.returns-clause-priced
 returns-clause-priced g c =

@@ -13,24 +13,21 @@ use Rattle.mk_asking.proofs.Apart.{apart_lent, apart_then}
 use Rattle.mk_market.proofs.Apart.{each_owns, others_left}
 use Rattle.mk_market.proofs.EveryValue.{can_refuse_told, known_of, same_standing}
 use Rattle.mk_market.proofs.EveryValue.{position_allowed, position_stopped, position_kept}
-use Rattle.mk_market.proofs.Growing.{is_open}
+use Rattle.mk_market.proofs.Growing.{open_by}
 use Rattle.mk_asking.proofs.Lent.{in_range, names_stay}
-use Rattle.mk_market.proofs.Quotes.{kept_unquoted, answered_learnt}
+use Rattle.mk_market.proofs.Quotes.{kept_learnt, answered_learnt}
 use Rattle.mk_market.proofs.Refiled.{refiled}
-use Rattle.mk_market.proofs.Replies.{answered_refused, by_record, none_appended}
+use Rattle.mk_market.proofs.Replies.{answered_by_record, none_appended}
 use Rattle.mk_record.proofs.SpreadRefusals.{value_is_held}
 use Rattle.mk_market.proofs.Spreads.{question_for}
 use Rattle.mk_market.proofs.market.Market.position.Goals as goal
 
 pub returns-in_err-request : goal.returns-in_err-request
 returns-in_err-request g c =
-    let i = c.self.inside in
-    let command = Position c.args.name.now c.args.variable.now c.args.condition.now in
-    answered_refused _ c.args.self.now _ c.self.view_is
-    (each_owns _ _ c.self.invariant.named) command tt c.in_err-request.field-0.0
-    c.from_residual.result c.from_residual.ensures.1
-    (by_record (market_of i.file) i.journal.history command c.in_err-request.field-0.0
-    (c.in_err-request.ensures.refusal c.args.condition.now (sym c.as_slice-words.ensures.value)))
+    answered_by_record _ c.args.self.now _ c.self.view_is (each_owns _ _ c.self.invariant.named)
+    (Position c.args.name.now c.args.variable.now c.args.condition.now) tt
+    c.in_err-request.field-0.0 c.from_residual.result c.from_residual.ensures.1
+    (c.in_err-request.ensures.refusal c.args.condition.now (sym c.as_slice-words.ensures.value))
 
 pub assets-requires : goal.assets-requires
 assets-requires g c =
@@ -40,16 +37,14 @@ assets-requires g c =
 pub position_of-requires-clause-assets : goal.position_of-requires-clause-assets
 position_of-requires-clause-assets g c =
     let i = c.self.inside in
-    let kept = kept_unquoted g.P.Engine.stands_for g.A.Engine.stands_for g.A.Engine.plan_for i.file i.prices i.prices i.rows i.plan i.users c.learn.new.users i.ledger i.journal i.payments i.till
-    c.self.invariant (λ m stands. stands) c.learn.ensures.names c.learn.ensures.quotes c.learn.ensures.held in
+    let kept = kept_learnt c.self.invariant c.learn.ensures.names c.learn.ensures.quotes c.learn.ensures.held in
     let found = c.in_ok-request in
     record {
       tree = i.file.tree;
       history = i.journal.history;
       user = found.request.user;
       owns = c.learn.ensures.learnt c.assets.result.now c.assets.ensures.value;
-      is_open = is_open g.P.Engine.stands_for g.A.Engine.stands_for g.A.Engine.plan_for i.file
-          i.prices i.rows i.plan c.learn.new.users i.ledger i.journal i.payments i.till kept;
+      is_open = open_by kept;
       answered = found.ensures.question.answered;
       held = λ value. value_is_held i.file.tree found.request.home
           (spread_in found.request.question) value found.ensures.home;
@@ -58,8 +53,7 @@ position_of-requires-clause-assets g c =
 pub invariant_of-self : goal.invariant_of-self
 invariant_of-self g c =
     let i = c.self.inside in
-    let kept = kept_unquoted g.P.Engine.stands_for g.A.Engine.stands_for g.A.Engine.plan_for i.file i.prices i.prices i.rows i.plan i.users c.learn.new.users i.ledger i.journal i.payments i.till
-    c.self.invariant (λ m stands. stands) c.learn.ensures.names c.learn.ensures.quotes c.learn.ensures.held in
+    let kept = kept_learnt c.self.invariant c.learn.ensures.names c.learn.ensures.quotes c.learn.ensures.held in
     let found = c.in_ok-request in
     refiled _ _ _ _ _ _ _ _ _ _ _ _ g.P.Engine.stands_for g.A.Engine.stands_for g.A.Engine.plan_for _ _ _ _
     _ _ _ _
@@ -72,11 +66,9 @@ invariant_of-self g c =
 pub refuse_condition-requires : goal.refuse_condition-requires
 refuse_condition-requires g c =
     let i = c.self.inside in
-    let kept = kept_unquoted g.P.Engine.stands_for g.A.Engine.stands_for g.A.Engine.plan_for i.file i.prices i.prices i.rows i.plan i.users c.learn.new.users i.ledger i.journal i.payments i.till
-    c.self.invariant (λ m stands. stands) c.learn.ensures.names c.learn.ensures.quotes c.learn.ensures.held in
+    let kept = kept_learnt c.self.invariant c.learn.ensures.names c.learn.ensures.quotes c.learn.ensures.held in
     let found = c.in_ok-request in let H = i.journal.history in
-    let opened = is_open g.P.Engine.stands_for g.A.Engine.stands_for g.A.Engine.plan_for i.file
-    i.prices i.rows i.plan c.learn.new.users i.ledger i.journal i.payments i.till kept in
+    let opened = open_by kept in
     let command = Position c.args.name.now c.args.variable.now c.args.condition.now in
     let none = found.ensures.refusal c.args.condition.now (sym c.as_slice-words.ensures.value) in
     let known = (none_applies (refusals_by_record (market_of i.file) H command) (sym none)).1.1.1.0
@@ -95,8 +87,7 @@ refuse_condition-requires g c =
 pub invariant_of-self-in-None : goal.invariant_of-self-in-None
 invariant_of-self-in-None g c =
     let i = c.self.inside in
-    let kept = kept_unquoted g.P.Engine.stands_for g.A.Engine.stands_for g.A.Engine.plan_for i.file i.prices i.prices i.rows i.plan i.users c.learn.new.users i.ledger i.journal i.payments i.till
-    c.self.invariant (λ m stands. stands) c.learn.ensures.names c.learn.ensures.quotes c.learn.ensures.held in
+    let kept = kept_learnt c.self.invariant c.learn.ensures.names c.learn.ensures.quotes c.learn.ensures.held in
     let found = c.in_ok-request in
     refiled _ _ _ _ _ _ _ _ _ _ _ _ g.P.Engine.stands_for g.A.Engine.stands_for g.A.Engine.plan_for _ _ _ _
     _ _ _ _
@@ -109,11 +100,9 @@ invariant_of-self-in-None g c =
 pub returns-in-Some : goal.returns-in-Some
 returns-in-Some g c =
     let i = c.self.inside in
-    let kept = kept_unquoted g.P.Engine.stands_for g.A.Engine.stands_for g.A.Engine.plan_for i.file i.prices i.prices i.rows i.plan i.users c.learn.new.users i.ledger i.journal i.payments i.till
-    c.self.invariant (λ m stands. stands) c.learn.ensures.names c.learn.ensures.quotes c.learn.ensures.held in
+    let kept = kept_learnt c.self.invariant c.learn.ensures.names c.learn.ensures.quotes c.learn.ensures.held in
     let found = c.in_ok-request in let H = i.journal.history in
-    let opened = is_open g.P.Engine.stands_for g.A.Engine.stands_for g.A.Engine.plan_for i.file
-    i.prices i.rows i.plan c.learn.new.users i.ledger i.journal i.payments i.till kept in
+    let opened = open_by kept in
     let spread = spread_in found.request.question in
     let command = Position c.args.name.now c.args.variable.now c.args.condition.now in
     let question = question_for i.file H c.args.variable.now c.as_slice-words.result.now
@@ -144,11 +133,9 @@ returns-in-Some g c =
 pub returns-in-None : goal.returns-in-None
 returns-in-None g c =
     let i = c.self.inside in
-    let kept = kept_unquoted g.P.Engine.stands_for g.A.Engine.stands_for g.A.Engine.plan_for i.file i.prices i.prices i.rows i.plan i.users c.learn.new.users i.ledger i.journal i.payments i.till
-    c.self.invariant (λ m stands. stands) c.learn.ensures.names c.learn.ensures.quotes c.learn.ensures.held in
+    let kept = kept_learnt c.self.invariant c.learn.ensures.names c.learn.ensures.quotes c.learn.ensures.held in
     let found = c.in_ok-request in let H = i.journal.history in
-    let opened = is_open g.P.Engine.stands_for g.A.Engine.stands_for g.A.Engine.plan_for i.file
-    i.prices i.rows i.plan c.learn.new.users i.ledger i.journal i.payments i.till kept in
+    let opened = open_by kept in
     let spread = spread_in found.request.question in
     let command = Position c.args.name.now c.args.variable.now c.args.condition.now in
     let question = question_for i.file H c.args.variable.now c.as_slice-words.result.now

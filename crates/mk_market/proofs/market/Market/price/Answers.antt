@@ -1,43 +1,30 @@
 use Rattle.std.proofs.Common.{refl}
 use Rattle.mk_command.specs.declared.command.Command.TheVariants.{Price}
-use Rattle.mk_file.specs.MarketOf.{market_of}
 use Rattle.mk_beliefs.specs.Meanings.{weights_of}
-use Rattle.mk_net.specs.Events.{pairs_asked}
-use Rattle.mk_tree.proofs.Held.{home_is_held}
 use Rattle.mk_market.proofs.Apart.{each_owns}
-use Rattle.mk_market.proofs.Growing.{is_open}
-use Rattle.mk_market.proofs.Replies.{answered_refused, by_record}
-use Rattle.mk_market.proofs.Answers.{price_allowed, price_next}
+use Rattle.mk_market.proofs.Growing.{open_by}
+use Rattle.mk_market.proofs.Replies.{answered_by_record}
+use Rattle.mk_market.proofs.Answers.{can_price, price_allowed, price_next}
 use Rattle.mk_asking.proofs.Stopping.{can_refuse_condition, impossible_by}
 use Rattle.mk_market.proofs.Stopping.{price_known, price_stopped}
 use Rattle.mk_market.proofs.market.Market.price.Goals as goal
 
 pub returns-in_err-asked : goal.returns-in_err-asked
 returns-in_err-asked g c =
-    let i = c.self.inside in
-    answered_refused _ c.args.self.now _ c.self.view_is
-    (each_owns _ _ c.self.invariant.named) (Price c.args.question.now) tt c.in_err-asked.field-0.0 c.from_residual.result
-    c.from_residual.ensures.1 (by_record (market_of i.file) i.journal.history (Price c.args.question.now) c.in_err-asked.field-0.0 c.in_err-asked.ensures.refusal)
+    answered_by_record _ c.args.self.now _ c.self.view_is (each_owns _ _ c.self.invariant.named)
+    (Price c.args.question.now) tt
+    c.in_err-asked.field-0.0 c.from_residual.result c.from_residual.ensures.1
+    c.in_err-asked.ensures.refusal
 
 pub price_of-requires : goal.price_of-requires
 price_of-requires g c =
-    let i = c.self.inside in
-    let found = c.in_ok-asked in
-    record {
-      tree = i.file.tree;
-      history = i.journal.history;
-      stands = c.self.invariant.prices_stand;
-      is_open = is_open g.P.Engine.stands_for g.A.Engine.stands_for g.A.Engine.plan_for i.file
-          i.prices i.rows i.plan i.users i.ledger i.journal i.payments i.till c.self.invariant;
-      answered = found.ensures.question.answered;
-      held = home_is_held i.file.tree found.home (pairs_asked found.asked) found.ensures.home;
-    }
+    can_price c.self.invariant c.in_ok-asked.ensures.question c.in_ok-asked.ensures.home
 
 pub refuse_condition-requires : goal.refuse_condition-requires
 refuse_condition-requires g c =
     let i = c.self.inside in
     let found = c.in_ok-asked in
-    let opened = is_open g.P.Engine.stands_for g.A.Engine.stands_for g.A.Engine.plan_for i.file i.prices i.rows i.plan i.users i.ledger i.journal i.payments i.till c.self.invariant in
+    let opened = open_by c.self.invariant in
     let price = c.in-None.ensures.price i.file.tree i.journal.history i.file.max_trades c.self.invariant.prices_stand opened
     c.self.invariant.safe.bounded.few_trades found.ensures.question.answered in
     can_refuse_condition g.P.Engine.stands_for c.price_of.new.prices i.file.net i.file.tree i.journal.history
@@ -62,7 +49,7 @@ pub returns-in-None : goal.returns-in-None
 returns-in-None g c =
     let i = c.self.inside in
     let found = c.in_ok-asked in
-    let opened = is_open g.P.Engine.stands_for g.A.Engine.stands_for g.A.Engine.plan_for i.file i.prices i.rows i.plan i.users i.ledger i.journal i.payments i.till c.self.invariant in
+    let opened = open_by c.self.invariant in
     let price = c.in-None.ensures.price i.file.tree i.journal.history i.file.max_trades c.self.invariant.prices_stand opened
     c.self.invariant.safe.bounded.few_trades found.ensures.question.answered in
     rw (← c.self.view_is) (price_stopped i.file i.ledger i.journal i.users i.users refl c.self.invariant.named refl

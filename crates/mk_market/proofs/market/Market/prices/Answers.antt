@@ -11,20 +11,18 @@ use Rattle.mk_market.specs.inner.Keeping.{standing_of}
 use Rattle.mk_asking.specs.Stopped.{IsConditionBy}
 use Rattle.mk_market.proofs.Apart.{each_owns}
 use Rattle.mk_market.proofs.EveryValue.{can_refuse_told, known_of, prices_allowed, prices_stopped}
-use Rattle.mk_market.proofs.Growing.{is_open}
-use Rattle.mk_market.proofs.Replies.{answered_refused, by_record, none_appended}
+use Rattle.mk_market.proofs.Growing.{open_by}
+use Rattle.mk_market.proofs.Replies.{answered_by_record, none_appended}
 use Rattle.mk_record.proofs.SpreadRefusals.{value_is_held}
 use Rattle.mk_market.proofs.Spreads.{question_for}
 use Rattle.mk_market.proofs.market.Market.prices.Goals as goal
 
 pub returns-in_err-asked : goal.returns-in_err-asked
 returns-in_err-asked g c =
-    let i = c.self.inside in let command = Prices c.args.variable.now c.args.condition.now in
-    answered_refused _ c.args.self.now _ c.self.view_is
-    (each_owns _ _ c.self.invariant.named) command tt c.in_err-asked.field-0.0
-    c.from_residual.result c.from_residual.ensures.1
-    (by_record (market_of i.file) i.journal.history command c.in_err-asked.field-0.0
-    (c.in_err-asked.ensures.refusal c.args.condition.now (sym c.as_slice-words.ensures.value)))
+    answered_by_record _ c.args.self.now _ c.self.view_is (each_owns _ _ c.self.invariant.named)
+    (Prices c.args.variable.now c.args.condition.now) tt
+    c.in_err-asked.field-0.0 c.from_residual.result c.from_residual.ensures.1
+    (c.in_err-asked.ensures.refusal c.args.condition.now (sym c.as_slice-words.ensures.value))
 
 pub prices_of-requires : goal.prices_of-requires
 prices_of-requires g c =
@@ -33,8 +31,7 @@ prices_of-requires g c =
       tree = i.file.tree;
       history = i.journal.history;
       stands = c.self.invariant.prices_stand;
-      is_open = is_open g.P.Engine.stands_for g.A.Engine.stands_for g.A.Engine.plan_for i.file
-          i.prices i.rows i.plan i.users i.ledger i.journal i.payments i.till c.self.invariant;
+      is_open = open_by c.self.invariant;
       answered = found.ensures.question.answered;
       held = λ value. value_is_held i.file.tree found.home (spread_in found.asked) value
           found.ensures.home;
@@ -43,8 +40,7 @@ prices_of-requires g c =
 pub refuse_condition-requires : goal.refuse_condition-requires
 refuse_condition-requires g c =
     let i = c.self.inside in let found = c.in_ok-asked in let H = i.journal.history in
-    let opened = is_open g.P.Engine.stands_for g.A.Engine.stands_for g.A.Engine.plan_for i.file
-    i.prices i.rows i.plan i.users i.ledger i.journal i.payments i.till c.self.invariant in
+    let opened = open_by c.self.invariant in
     let command = Prices c.args.variable.now c.args.condition.now in
     let none = found.ensures.refusal c.args.condition.now (sym c.as_slice-words.ensures.value) in
     let known = (none_applies (refusals_by_record (market_of i.file) H command) (sym none)).1.1.0 in
@@ -63,8 +59,7 @@ refuse_condition-requires g c =
 pub returns-in-Some : goal.returns-in-Some
 returns-in-Some g c =
     let i = c.self.inside in let found = c.in_ok-asked in let H = i.journal.history in
-    let opened = is_open g.P.Engine.stands_for g.A.Engine.stands_for g.A.Engine.plan_for i.file
-    i.prices i.rows i.plan i.users i.ledger i.journal i.payments i.till c.self.invariant in
+    let opened = open_by c.self.invariant in
     let spread = spread_in found.asked in let command = Prices c.args.variable.now
     c.args.condition.now in
     let question = question_for i.file H c.args.variable.now c.as_slice-words.result.now
@@ -88,8 +83,7 @@ returns-in-Some g c =
 pub returns-in-None : goal.returns-in-None
 returns-in-None g c =
     let i = c.self.inside in let found = c.in_ok-asked in let H = i.journal.history in
-    let opened = is_open g.P.Engine.stands_for g.A.Engine.stands_for g.A.Engine.plan_for i.file
-    i.prices i.rows i.plan i.users i.ledger i.journal i.payments i.till c.self.invariant in
+    let opened = open_by c.self.invariant in
     let spread = spread_in found.asked in let command = Prices c.args.variable.now
     c.args.condition.now in
     let question = question_for i.file H c.args.variable.now c.as_slice-words.result.now

@@ -1,5 +1,5 @@
 use Rattle.std.specs.Prelude.{◌≡◌, ◌+◌, None}
-use Rattle.std.proofs.Common.{refl, sym, subst}
+use Rattle.std.proofs.Common.{sym, subst}
 use Rattle.mk_exact.specs.History.{revision}
 use Rattle.mk_command.specs.declared.command.Command.TheVariants.{Add}
 use Rattle.mk_reply.specs.declared.reply.Reply.TheVariants.{Added}
@@ -18,27 +18,14 @@ returns-in_err-refuse_add g c =
 
 pub grow-requires-clause-unrefused : goal.grow-requires-clause-unrefused
 grow-requires-clause-unrefused g c =
-    subst (λ (t : Trading _). first_refusal t.market t.standing.history (Add c.args.add.now) ≡ None)
-    c.self.view_is (sym c.in_ok-refuse_add.ensures.refusal)
-
-pub grow-requires-clause-prices : goal.grow-requires-clause-prices
-grow-requires-clause-prices g c =
-    c.requires.prices c.args.add.now refl (c.has_text.ensures.0 c.if-not-has_text.false)
-    (subst (λ (t : Trading _). first_refusal t.market t.standing.history (Add c.args.add.now) ≡ None)
-    c.self.view_is (sym c.in_ok-refuse_add.ensures.refusal))
-
-pub grow-requires-clause-assets : goal.grow-requires-clause-assets
-grow-requires-clause-assets g c =
-    c.requires.assets c.args.add.now refl (c.has_text.ensures.0 c.if-not-has_text.false)
-    (subst (λ (t : Trading _). first_refusal t.market t.standing.history (Add c.args.add.now) ≡ None)
-    c.self.view_is (sym c.in_ok-refuse_add.ensures.refusal))
+    rw (← c.self.view_is) (sym c.in_ok-refuse_add.ensures.refusal)
 
 pub returns : goal.returns
 returns g c =
     grown_taken_back c.args.self.now c.grow.new.self c.args.add.now c.args.reply.now
     (c.has_text.ensures.0 c.if-not-has_text.false)
-    (sym (subst (λ (t : Trading _). first_refusal t.market t.standing.history (Add c.args.add.now)
-    ≡ None) c.self.view_is (sym c.in_ok-refuse_add.ensures.refusal)))
+    (subst (λ (t : Trading _). None ≡ first_refusal t.market t.standing.history (Add c.args.add.now))
+    c.self.view_is c.in_ok-refuse_add.ensures.refusal)
     c.in-Ok.ensures.ok
     (subst (λ (t : Trading _). c.args.reply.now
     ≡ Added c.args.add.now.variable (revision t.standing.history + 1)) c.self.view_is

@@ -1,12 +1,10 @@
-use Rattle.std.specs.Prelude.{◌+◌}
-use Rattle.std.proofs.Common.{refl}
+use Rattle.std.specs.Prelude.{◌≡◌, ◌+◌}
+use Rattle.std.proofs.Common.{sym, ◌∙◌, subst}
 use Rattle.mk_exact.specs.History.{revision}
 use Rattle.mk_command.specs.declared.command.Command.TheVariants.{Deposit}
 use Rattle.mk_reply.specs.declared.reply.Reply.TheVariants.{Deposited}
-use Rattle.mk_file.specs.MarketOf.{market_of}
-use Rattle.mk_market.proofs.Deposits.{can_deposit, points_fit, deposit_kept}
-use Rattle.mk_market.proofs.Deposits.{deposit_next, deposit_paid}
-use Rattle.mk_market.proofs.TakenBack.{left_by_reply, left_by_refusal, tried_unfit, taken_back}
+use Rattle.mk_market.specs.Trading.{Trading}
+use Rattle.mk_market.proofs.TakenBack.{left_by_reply, tried_unfit, as_found}
 use Rattle.mk_market.proofs.market.Market.restore_deposit.Goals as goal
 
 pub returns-then-not-tells_deposit : goal.returns-then-not-tells_deposit
@@ -15,48 +13,16 @@ returns-then-not-tells_deposit g c =
     (λ agrees. let yes = c.tells_deposit.ensures.1 agrees in
     let no = c.if-not-tells_deposit.true in absurd (cc)))
 
-pub returns-in_err-user : goal.returns-in_err-user
-returns-in_err-user g c =
-    rw (← c.self.view_is) (tried_unfit _ _ (Deposit c.args.name.now c.args.bits) c.args.reply.now
+pub returns-in_err-deposit : goal.returns-in_err-deposit
+returns-in_err-deposit g c =
+    tried_unfit _ _ (Deposit c.args.name.now c.args.bits) c.args.reply.now
     c.from_residual.result c.from_residual.ensures.1
-    (left_by_refusal _ (Deposit c.args.name.now c.args.bits) c.args.reply.now
-    c.in_err-user.field-0.0 (c.in_err-user.ensures.deposit (market_of c.self.inside.file) c.self.invariant.max_transfers)))
-
-pub deposit-requires : goal.deposit-requires
-deposit-requires g c =
-    can_deposit g.P.Engine.stands_for g.A.Engine.stands_for g.A.Engine.plan_for _ _ _ _ _ _ _ _ _
-    c.self.invariant c.args.name.now c.in_ok-user.user c.args.bits
-    c.in_ok-user.ensures.user c.in_ok-user.ensures.room c.assets.result.now c.assets.ensures.value
-
-pub deposit-requires-2-clause-fits : goal.deposit-requires-2-clause-fits
-deposit-requires-2-clause-fits g c =
-    points_fit g.P.Engine.stands_for g.A.Engine.stands_for g.A.Engine.plan_for _ _ _ _ _ _ _ _ _
-    c.self.invariant c.args.name.now c.in_ok-user.user c.args.bits
-    c.in_ok-user.ensures.user c.in_ok-user.ensures.room
-
-pub invariant_of-self : goal.invariant_of-self
-invariant_of-self g c =
-    deposit_kept g.P.Engine.stands_for g.A.Engine.stands_for g.A.Engine.plan_for _ _ _ _ _ _ _ _ _
-    c.self.invariant c.args.name.now c.in_ok-user.user c.args.bits
-    c.in_ok-user.ensures.user c.in_ok-user.ensures.room c.assets.result.now c.deposit.new.self
-    c.assets.ensures.value c.deposit-2.new.self c.deposit-3.new.self
-    c.deposit-3.ensures.history (c.in_ok-user.ensures.deposit (market_of c.self.inside.file) c.self.invariant.max_transfers)
-    (record { trades = c.deposit-3.ensures.limit; users = c.deposit-3.ensures.users; transfers = c.deposit-3.ensures.transfers }) c.deposit.ensures.held c.deposit-2.ensures
+    (c.in_err-deposit.ensures.again c.args.reply.now)
 
 pub returns : goal.returns
 returns g c =
-    let H = c.self.inside.journal.history in
-    rw (← c.self.view_is) (taken_back _ _ (Deposit c.args.name.now c.args.bits) c.args.reply.now
-    (Deposited c.args.name.now c.args.bits (revision H + 1))
-    (c.tells_deposit.ensures.0 c.if-not-tells_deposit.false) refl
-    (c.in_ok-user.ensures.deposit (market_of c.self.inside.file) c.self.invariant.max_transfers) refl
-    (deposit_next g.P.Engine.stands_for g.A.Engine.stands_for g.A.Engine.plan_for _ _ _ _ _ _ _ _ _
-    c.self.invariant c.args.name.now c.in_ok-user.user c.args.bits
-    c.in_ok-user.ensures.user c.in_ok-user.ensures.room c.assets.result.now c.deposit.new.self
-    c.assets.ensures.value c.deposit-2.new.self c.deposit-3.new.self
-    c.deposit-3.ensures.history (c.in_ok-user.ensures.deposit (market_of c.self.inside.file) c.self.invariant.max_transfers)
-    (revision H + 1))
-    (deposit_paid g.P.Engine.stands_for g.A.Engine.stands_for g.A.Engine.plan_for _ _ _ _ _
-    _ _ _ _ c.self.invariant c.args.name.now c.in_ok-user.user c.args.bits
-    c.in_ok-user.ensures.user c.in_ok-user.ensures.room c.deposit-2.new.self
-    c.deposit-2.ensures (revision H + 1)))
+    let told = subst (λ (t : Trading _). c.args.reply.now
+    ≡ Deposited c.args.name.now c.args.bits (revision t.standing.history + 1)) c.self.view_is
+    (c.tells_deposit.ensures.0 c.if-not-tells_deposit.false) in
+    as_found _ _ (Deposit c.args.name.now c.args.bits) c.args.reply.now _
+    (told ∙ sym c.in_ok-deposit.ensures.again.fits.agrees) c.in_ok-deposit.ensures.again

@@ -1,18 +1,10 @@
-use Rattle.std.specs.Prelude.{◌+◌}
-use Rattle.std.proofs.Common.{[], ◌∷◌, refl}
-use Rattle.mk_engine.specs.Meaning.{Meaning}
+use Rattle.std.specs.Prelude.{◌≡◌, ◌+◌}
+use Rattle.std.proofs.Common.{sym, ◌∙◌, subst}
 use Rattle.mk_exact.specs.History.{revision}
-use Rattle.mk_beliefs.specs.Meanings.{weights_of, rows_of}
-use Rattle.mk_file.specs.MarketOf.{market_of}
 use Rattle.mk_command.specs.declared.command.Command.TheVariants.{Resolve}
-use Rattle.mk_reply.specs.declared.refusal.Refusal.TheVariants.{Impossible}
 use Rattle.mk_reply.specs.declared.reply.Reply.TheVariants.{Resolved}
-use Rattle.mk_market.specs.inner.Keeping.{standing_of}
-use Rattle.mk_market.proofs.Replies.{by_record, nothing_added}
-use Rattle.mk_market.proofs.Resolved.{has_home, can_ask, few_known, unrefused_where}
-use Rattle.mk_market.proofs.Resolved.{never_refused, asked_kept, resolution_next, resolution_kept}
-use Rattle.mk_market.proofs.Refiled.{refiled}
-use Rattle.mk_market.proofs.TakenBack.{left_by_reply, left_by_refusal, tried_unfit, taken_back}
+use Rattle.mk_market.specs.Trading.{Trading}
+use Rattle.mk_market.proofs.TakenBack.{left_by_reply, tried_unfit, as_found}
 use Rattle.mk_market.proofs.market.Market.restore_resolution.Goals as goal
 
 pub returns-then-not-tells_resolution : goal.returns-then-not-tells_resolution
@@ -21,99 +13,16 @@ returns-then-not-tells_resolution g c =
     (λ agrees. let yes = c.tells_resolution.ensures.1 agrees in
     let no = c.if-not-tells_resolution.true in absurd (cc)))
 
-pub returns-in_err-pair : goal.returns-in_err-pair
-returns-in_err-pair g c =
-    rw (← c.self.view_is) (tried_unfit _ _ (Resolve c.args.words.now) c.args.reply.now
+pub returns-in_err-resolve : goal.returns-in_err-resolve
+returns-in_err-resolve g c =
+    tried_unfit _ _ (Resolve c.args.words.now) c.args.reply.now
     c.from_residual.result c.from_residual.ensures.1
-    (left_by_refusal _ (Resolve c.args.words.now) c.args.reply.now c.in_err-pair.field-0.0
-    (by_record (market_of c.self.inside.file) c.self.inside.journal.history
-    (Resolve c.args.words.now) c.in_err-pair.field-0.0 c.in_err-pair.ensures.refusal)))
-
-pub home_of-home-requires : goal.home_of-home-requires
-home_of-home-requires g c = has_home g.P.Engine.stands_for g.A.Engine.stands_for g.A.Engine.plan_for
-    _ _ _ _ _ _ _ _ _ c.self.invariant c.args.words.now c.in_ok-pair.pair
-    c.in_ok-pair.ensures.named c.in_ok-pair.ensures.pair
-
-pub can_come-requires : goal.can_come-requires
-can_come-requires g c = can_ask g.P.Engine.stands_for g.A.Engine.stands_for g.A.Engine.plan_for _ _
-    _ _ _ _ _ _ _ c.self.invariant c.args.words.now c.in_ok-pair.pair
-    c.in_ok-pair.ensures.named c.in_ok-pair.ensures.pair c.home_of-home.result
-    c.home_of-home.ensures
-
-pub know-requires-clause-home : goal.know-requires-clause-home
-know-requires-clause-home g c =
-    let i = c.self.inside in
-    g.met.P.Engine.home_is_place c.can_come.new.prices
-    (weights_of i.file.net i.file.tree i.journal.history) c.home_of-home.result
-    (c.in_ok-pair.pair ∷ [])
-    (c.can_come.ensures.kept _ c.self.invariant.prices_stand) c.home_of-home.ensures
-
-pub know-requires-2-clause-home : goal.know-requires-2-clause-home
-know-requires-2-clause-home g c =
-    let i = c.self.inside in
-    g.met.A.Engine.home_is_place i.rows (rows_of i.file.net i.file.tree i.journal.history)
-    c.home_of-home.result (c.in_ok-pair.pair ∷ [])
-    c.self.invariant.rows_stand c.home_of-home.ensures
-
-pub resolve-requires : goal.resolve-requires
-resolve-requires g c = few_known g.P.Engine.stands_for g.A.Engine.stands_for g.A.Engine.plan_for _
-    _ _ _ _ _ _ _ _ c.self.invariant c.args.words.now c.in_ok-pair.pair
-    c.in_ok-pair.ensures.named c.in_ok-pair.ensures.pair
-    (unrefused_where g.P.Engine.stands_for g.A.Engine.stands_for g.A.Engine.plan_for _ _ _ _ _ _ _
-    _ _ c.self.invariant c.args.words.now c.in_ok-pair.pair
-    c.in_ok-pair.ensures.named c.in_ok-pair.ensures.pair c.in_ok-pair.ensures.refusal
-    c.can_come.result c.can_come.ensures.found c.if-not-can_come.false)
-
-pub invariant_of-self : goal.invariant_of-self
-invariant_of-self g c =
-    refiled _ _ _ _ _ _ _ _ _ _ _ _ g.P.Engine.stands_for g.A.Engine.stands_for g.A.Engine.plan_for _ _ _ _
-    _ _ _ _
-    (asked_kept g.P.Engine.stands_for g.A.Engine.stands_for g.A.Engine.plan_for _ _ _ _ _ _ _ _ _
-    c.self.invariant c.args.words.now c.in_ok-pair.pair
-    c.in_ok-pair.ensures.named c.in_ok-pair.ensures.pair c.can_come.new.prices
-    c.can_come.ensures.kept)
-
-pub invariant_of-self-2 : goal.invariant_of-self-2
-invariant_of-self-2 g c =
-    refiled _ _ _ _ _ _ _ _ _ _ _ _ g.P.Engine.stands_for g.A.Engine.stands_for g.A.Engine.plan_for _ _ _ _
-    _ _ _ _
-    (resolution_kept g.P.Engine.stands_for g.A.Engine.stands_for g.A.Engine.plan_for _ _ _ _ _ _ _
-    _ _ c.self.invariant c.args.words.now c.in_ok-pair.pair
-    c.in_ok-pair.ensures.named c.in_ok-pair.ensures.pair
-    (unrefused_where g.P.Engine.stands_for g.A.Engine.stands_for g.A.Engine.plan_for _ _ _ _ _ _ _
-    _ _ c.self.invariant c.args.words.now c.in_ok-pair.pair
-    c.in_ok-pair.ensures.named c.in_ok-pair.ensures.pair c.in_ok-pair.ensures.refusal
-    c.can_come.result c.can_come.ensures.found c.if-not-can_come.false)
-    c.know.new.self c.know-2.new.self c.resolve.new.self c.resolve.ensures.history
-    (record { trades = c.resolve.ensures.limit; users = c.resolve.ensures.users; transfers = c.resolve.ensures.transfers })
-    (λ (m : Meaning) stands. c.know.ensures m (c.can_come.ensures.kept m stands)) c.know-2.ensures)
-
-pub returns-then-not-can_come : goal.returns-then-not-can_come
-returns-then-not-can_come g c =
-    rw (← c.self.view_is) (left_by_refusal _ (Resolve c.args.words.now) c.args.reply.now
-    (Impossible c.args.words.now)
-    (never_refused g.P.Engine.stands_for g.A.Engine.stands_for g.A.Engine.plan_for _ _ _ _ _ _ _ _ _
-    c.self.invariant c.args.words.now c.in_ok-pair.pair
-    c.in_ok-pair.ensures.named c.in_ok-pair.ensures.pair c.in_ok-pair.ensures.refusal
-    c.can_come.result c.can_come.ensures.found c.if-not-can_come.true))
+    (c.in_err-resolve.ensures.again c.args.reply.now)
 
 pub returns : goal.returns
 returns g c =
-    let H = c.self.inside.journal.history in
-    let none = unrefused_where g.P.Engine.stands_for g.A.Engine.stands_for g.A.Engine.plan_for _ _
-    _ _ _ _ _ _ _ c.self.invariant c.args.words.now c.in_ok-pair.pair
-    c.in_ok-pair.ensures.named c.in_ok-pair.ensures.pair c.in_ok-pair.ensures.refusal
-    c.can_come.result c.can_come.ensures.found c.if-not-can_come.false in
-    rw (← c.self.view_is) (taken_back _ _ (Resolve c.args.words.now) c.args.reply.now
-    (Resolved c.args.words.now (revision H + 1))
-    (c.tells_resolution.ensures.0 c.if-not-tells_resolution.false)
-    (nothing_added (market_of c.self.inside.file)
-    (standing_of c.self.inside.journal c.self.inside.users) (Resolve c.args.words.now)
-    (Resolved c.args.words.now (revision H + 1)) tt)
-    none refl
-    (resolution_next g.P.Engine.stands_for g.A.Engine.stands_for g.A.Engine.plan_for _ _ _ _ _ _ _
-    _ _ c.self.invariant c.args.words.now c.in_ok-pair.pair
-    c.in_ok-pair.ensures.named c.in_ok-pair.ensures.pair none
-    c.resolve.new.self c.resolve.ensures.history
-    (revision H + 1))
-    (λ u. refl))
+    let told = subst (λ (t : Trading _). c.args.reply.now
+    ≡ Resolved c.args.words.now (revision t.standing.history + 1)) c.self.view_is
+    (c.tells_resolution.ensures.0 c.if-not-tells_resolution.false) in
+    as_found _ _ (Resolve c.args.words.now) c.args.reply.now _
+    (told ∙ sym c.in_ok-resolve.ensures.again.fits.agrees) c.in_ok-resolve.ensures.again

@@ -16,7 +16,7 @@ use Rattle.mk_asking.specs.Quoting.{IsTaken, IsTurnedDown, CanBeMade}
 use Rattle.mk_asking.specs.Stopped.{IsRefusedFor}
 use Rattle.mk_asking.proofs.Apart.{apart_then}
 use Rattle.mk_market.proofs.Apart.{each_owns}
-use Rattle.mk_market.proofs.Growing.{is_open}
+use Rattle.mk_market.proofs.Growing.{open_by}
 use Rattle.mk_market.proofs.Refiled.{refiled}
 use Rattle.mk_market.proofs.Replies.{by_record, unsettled}
 use Rattle.mk_market.proofs.Spreads.{spread_refused_answered, question_for, of_values, ratio_is}
@@ -101,7 +101,7 @@ invariant_of-self g c =
     let may = turned_may_stop i.file.net i.file.tree i.journal.history found.request.user spread
     (quotes_of i.users) (quotes_of made.new.users) c.args.to.now.items one_each c.in-Err.why
     down in
-    let opened = is_open g.P.Engine.stands_for g.A.Engine.stands_for g.A.Engine.plan_for i.file i.prices i.rows i.plan i.users i.ledger i.journal i.payments i.till c.self.invariant in
+    let opened = open_by c.self.invariant in
     let refused = subst (λ (words : List PairText). IsRefusedFor i.file.net i.journal.history c.args.variable.now words spread c.in-Err.why c.refuse_stopped.result) c.as_slice-in-Err.ensures.value
     (c.refuse_stopped.ensures.refusal i.file.tree i.journal.history (c.in-Err.ensures.prices _ c.self.invariant.prices_stand) opened may) in
     refiled _ _ _ _ _ _ _ _ _ _ _ _ g.P.Engine.stands_for g.A.Engine.stands_for g.A.Engine.plan_for _ _ _ _ _ _ _ _
@@ -128,7 +128,7 @@ returns-in-Err g c =
     let may = turned_may_stop i.file.net i.file.tree i.journal.history found.request.user spread
     (quotes_of i.users) (quotes_of made.new.users) c.args.to.now.items one_each c.in-Err.why
     down in
-    let opened = is_open g.P.Engine.stands_for g.A.Engine.stands_for g.A.Engine.plan_for i.file i.prices i.rows i.plan i.users i.ledger i.journal i.payments i.till c.self.invariant in
+    let opened = open_by c.self.invariant in
     let refused = subst (λ (words : List PairText). IsRefusedFor i.file.net i.journal.history c.args.variable.now words spread c.in-Err.why c.refuse_stopped.result) c.as_slice-in-Err.ensures.value
     (c.refuse_stopped.ensures.refusal i.file.tree i.journal.history (c.in-Err.ensures.prices _ c.self.invariant.prices_stand) opened may) in
     rw (← c.self.view_is)
@@ -145,7 +145,7 @@ ratio_of_spread-ratio-requires-clause-of_values g c =
     let made = c.judge_spread in
     let spread = spread_in found.request.question in
     let question = question_for i.file i.journal.history c.args.variable.now c.as_slice.result.now c.args.condition.now spread c.as_slice.ensures.value found.ensures.question in
-    let opened = is_open g.P.Engine.stands_for g.A.Engine.stands_for g.A.Engine.plan_for i.file i.prices i.rows i.plan i.users i.ledger i.journal i.payments i.till c.self.invariant in
+    let opened = open_by c.self.invariant in
     let factors = c.in-Ok.factors in
     let judged = subst (λ (Xs : List ℕ). IsTaken i.file.net i.file.tree i.journal.history
     found.request.user spread (quotes_of i.users) (quotes_of made.new.users) Xs factors.items)
@@ -162,7 +162,7 @@ ratio_of_spread-ratio-requires-clause-units g c =
     let made = c.judge_spread in
     let spread = spread_in found.request.question in
     let question = question_for i.file i.journal.history c.args.variable.now c.as_slice.result.now c.args.condition.now spread c.as_slice.ensures.value found.ensures.question in
-    let opened = is_open g.P.Engine.stands_for g.A.Engine.stands_for g.A.Engine.plan_for i.file i.prices i.rows i.plan i.users i.ledger i.journal i.payments i.till c.self.invariant in
+    let opened = open_by c.self.invariant in
     let factors = c.in-Ok.factors in
     let judged = subst (λ (Xs : List ℕ). IsTaken i.file.net i.file.tree i.journal.history
     found.request.user spread (quotes_of i.users) (quotes_of made.new.users) Xs factors.items)
@@ -179,7 +179,7 @@ trade-requires g c =
     let made = c.judge_spread in
     let spread = spread_in found.request.question in
     let question = question_for i.file i.journal.history c.args.variable.now c.as_slice.result.now c.args.condition.now spread c.as_slice.ensures.value found.ensures.question in
-    let opened = is_open g.P.Engine.stands_for g.A.Engine.stands_for g.A.Engine.plan_for i.file i.prices i.rows i.plan i.users i.ledger i.journal i.payments i.till c.self.invariant in
+    let opened = open_by c.self.invariant in
     let factors = c.in-Ok.factors in
     let judged = subst (λ (Xs : List ℕ). IsTaken i.file.net i.file.tree i.journal.history
     found.request.user spread (quotes_of i.users) (quotes_of made.new.users) Xs factors.items)
@@ -203,7 +203,7 @@ invariant_of-self-2 g c =
     let made = c.judge_spread in
     let spread = spread_in found.request.question in
     let question = question_for i.file i.journal.history c.args.variable.now c.as_slice.result.now c.args.condition.now spread c.as_slice.ensures.value found.ensures.question in
-    let opened = is_open g.P.Engine.stands_for g.A.Engine.stands_for g.A.Engine.plan_for i.file i.prices i.rows i.plan i.users i.ledger i.journal i.payments i.till c.self.invariant in
+    let opened = open_by c.self.invariant in
     let factors = c.in-Ok.factors in
     let judged = subst (λ (Xs : List ℕ). IsTaken i.file.net i.file.tree i.journal.history
     found.request.user spread (quotes_of i.users) (quotes_of made.new.users) Xs factors.items)
@@ -245,7 +245,7 @@ returns g c =
     let made = c.judge_spread in
     let spread = spread_in found.request.question in
     let question = question_for i.file i.journal.history c.args.variable.now c.as_slice.result.now c.args.condition.now spread c.as_slice.ensures.value found.ensures.question in
-    let opened = is_open g.P.Engine.stands_for g.A.Engine.stands_for g.A.Engine.plan_for i.file i.prices i.rows i.plan i.users i.ledger i.journal i.payments i.till c.self.invariant in
+    let opened = open_by c.self.invariant in
     let factors = c.in-Ok.factors in
     let judged = subst (λ (Xs : List ℕ). IsTaken i.file.net i.file.tree i.journal.history
     found.request.user spread (quotes_of i.users) (quotes_of made.new.users) Xs factors.items)

@@ -1,5 +1,5 @@
 use Rattle.std.proofs.Common.{subst}
-use Rattle.mk_market.proofs.Growing.{market_is}
+use Rattle.mk_parts.proofs.Markets.{market_is}
 use Rattle.mk_market.proofs.Openings.{opening_kept, opening_weights}
 use Rattle.mk_market.proofs.market.Market.with_plans.Goals as goal
 

@@ -6,7 +6,7 @@ use Rattle.mk_file.specs.MarketOf.{market_of}
 use Rattle.mk_asking.proofs.Apart.{apart_lent, apart_then}
 use Rattle.mk_market.proofs.Apart.{each_owns, others_left}
 use Rattle.mk_asking.proofs.Lent.{in_range, names_stay}
-use Rattle.mk_market.proofs.Quotes.{kept_unquoted, answered_learnt}
+use Rattle.mk_market.proofs.Quotes.{kept_learnt, answered_learnt}
 use Rattle.mk_market.proofs.Replies.{answered_refused}
 use Rattle.mk_market.proofs.Worsts.{can_find, worst_allowed, worst_next, worst_kept}
 use Rattle.mk_market.proofs.market.Market.worst.Goals as goal
@@ -25,23 +25,20 @@ assets-requires g c =
 pub least_of-factor-requires : goal.least_of-factor-requires
 least_of-factor-requires g c =
     let i = c.self.inside in
-    let kept = kept_unquoted g.P.Engine.stands_for g.A.Engine.stands_for g.A.Engine.plan_for i.file i.prices i.prices i.rows i.plan i.users c.learn.new.users i.ledger i.journal i.payments i.till
-    c.self.invariant (λ m stands. stands) c.learn.ensures.names c.learn.ensures.quotes c.learn.ensures.held in
+    let kept = kept_learnt c.self.invariant c.learn.ensures.names c.learn.ensures.quotes c.learn.ensures.held in
     can_find g.P.Engine.stands_for g.A.Engine.stands_for g.A.Engine.plan_for _ _ _ _ _ _ _ _ _ kept c.args.name.now c.in_ok-user.user c.in_ok-user.ensures.user c.assets.result.now c.assets.result.now c.assets.ensures.value c.learn.ensures.learnt
 
 pub invariant_of-self : goal.invariant_of-self
 invariant_of-self g c =
     let i = c.self.inside in
-    let kept = kept_unquoted g.P.Engine.stands_for g.A.Engine.stands_for g.A.Engine.plan_for i.file i.prices i.prices i.rows i.plan i.users c.learn.new.users i.ledger i.journal i.payments i.till
-    c.self.invariant (λ m stands. stands) c.learn.ensures.names c.learn.ensures.quotes c.learn.ensures.held in
+    let kept = kept_learnt c.self.invariant c.learn.ensures.names c.learn.ensures.quotes c.learn.ensures.held in
     worst_kept g.P.Engine.stands_for g.A.Engine.stands_for g.A.Engine.plan_for _ _ _ _ _ _ _ _ _ kept c.args.name.now c.in_ok-user.user c.in_ok-user.ensures.user
     c.assets.result.now c.least_of-factor.new.assets c.assets.ensures.value c.least_of-factor.ensures.kept
 
 pub returns : goal.returns
 returns g c =
     let i = c.self.inside in
-    let kept = kept_unquoted g.P.Engine.stands_for g.A.Engine.stands_for g.A.Engine.plan_for i.file i.prices i.prices i.rows i.plan i.users c.learn.new.users i.ledger i.journal i.payments i.till
-    c.self.invariant (λ m stands. stands) c.learn.ensures.names c.learn.ensures.quotes c.learn.ensures.held in
+    let kept = kept_learnt c.self.invariant c.learn.ensures.names c.learn.ensures.quotes c.learn.ensures.held in
     let found = c.in_ok-user in
     let lent = apart_lent c.learn.new.users found.user c.least_of-factor.new.assets in
     rw (← c.self.view_is) (answered_learnt i.file i.ledger i.journal i.users c.learn.new.users c.learn.ensures.quotes _ (Worst c.args.name.now) (Worsted c.cash.result.0 c.cash.result.1)

@@ -1,0 +1,3 @@
+pub mod Booked
+pub mod Told
+pub mod Fitting

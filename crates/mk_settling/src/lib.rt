@@ -1,0 +1,6 @@
+//! How the payments of a settlement are made, told, listed and entered.
+#![tactic(auto)]
+
+mod payments;
+
+pub use payments::{MAX_LISTED, enter, list, pay_all_by_rule, tell};
