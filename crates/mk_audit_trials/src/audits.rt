@@ -3,24 +3,13 @@
 ghost use Rattle.std.specs.Prelude.{◌≤◌};
 
 use mk_audit::audit_named;
+use mk_fixtures::COIN;
 use mk_io::{MemorySink, NamedFile, QuietInputs, Status};
 use mk_make::sample;
 use mk_session::serve;
 use std::alloc::{AllocError, Global};
 use std::process::Abort;
 use std::test::Fail;
-
-const COIN: &str = "points_per_bit = 100
-max_trades = 1000
-cliques = [['coin']]
-links = []
-
-[[variable]]
-name = 'coin'
-values = ['heads', 'tails']
-parents = []
-rows = [[500000, 500000]]
-";
 
 /// Commands to the coin, between which a blank line stands.
 const COMMANDS: &str = "user alice

@@ -8,6 +8,7 @@ ghost use Rattle.mk_engine.specs.Meaning.{ArePairsOf};
 
 use mk_best::{Chance, chance};
 use mk_file::{MarketFile, read_market};
+use mk_fixtures::CHAIN;
 use mk_history::Limits;
 use mk_net::{Network, NoMemory, Pair};
 use mk_record::Journal;
@@ -15,66 +16,22 @@ use std::alloc::Global;
 use std::process::Abort;
 use std::test::Fail;
 
-/// Three variables, each the parent of the next, in the cliques {a, b}, {b, c} and {c}.
-pub(crate) const CHAIN: &str = "points_per_bit = 1
-max_trades = 1
-cliques = [['a', 'b'], ['b', 'c'], ['c']]
-links = [1, 2]
-[[variable]]
-name = 'a'
-values = ['up', 'down']
-parents = []
-rows = [[500000, 500000]]
-[[variable]]
-name = 'b'
-values = ['up', 'down']
-parents = ['a']
-rows = [[600000, 400000], [300000, 700000]]
-[[variable]]
-name = 'c'
-values = ['up', 'down']
-parents = ['b']
-rows = [[800000, 200000], [100000, 900000]]
-";
-
 /// Pearl's alarm, which a burglary or an earthquake sets off, and by which John and Mary call.
 pub(crate) const ALARM: &str = "points_per_bit = 1
 max_trades = 1
 cliques = [['burglary', 'earthquake', 'alarm'], ['alarm', 'john'], ['alarm', 'mary']]
 links = [1, 1]
-[[variable]]
-name = 'burglary'
-values = ['yes', 'no']
-parents = []
-rows = [[1000, 999000]]
-[[variable]]
-name = 'earthquake'
-values = ['yes', 'no']
-parents = []
-rows = [[2000, 998000]]
-[[variable]]
-name = 'alarm'
-values = ['yes', 'no']
-parents = ['burglary', 'earthquake']
-rows = [[950000, 50000], [940000, 60000], [290000, 710000], [1000, 999000]]
-[[variable]]
-name = 'john'
-values = ['yes', 'no']
-parents = ['alarm']
-rows = [[900000, 100000], [50000, 950000]]
-[[variable]]
-name = 'mary'
-values = ['yes', 'no']
-parents = ['alarm']
-rows = [[700000, 300000], [10000, 990000]]
+variable = [
+{name = 'burglary', values = ['yes', 'no'], parents = [], rows = [[1000, 999000]]},
+{name = 'earthquake', values = ['yes', 'no'], parents = [], rows = [[2000, 998000]]},
+{name = 'alarm', values = ['yes', 'no'], parents = ['burglary', 'earthquake'], rows = [
+[950000, 50000], [940000, 60000], [290000, 710000], [1000, 999000]]},
+{name = 'john', values = ['yes', 'no'], parents = ['alarm'], rows = [
+[900000, 100000], [50000, 950000]]},
+{name = 'mary', values = ['yes', 'no'], parents = ['alarm'], rows = [
+[700000, 300000], [10000, 990000]]},
+]
 ";
-
-/// The network of a market file, with its tree.
-pub(crate) fn read(alloc: Global, file: &str) -> Result<MarketFile, Fail>
-    ensures { IfOk result (λ file. IsTreeOf file.net file.tree) }
-{
-    Ok(read_market(alloc, file.as_bytes())?)
-}
 
 /// A variable at a value.
 pub(crate) fn at(variable: u32, value: u32) -> Pair {
@@ -184,12 +141,12 @@ fn check_alarm(rt: &impl Abort, alloc: Global, file: &MarketFile) -> Result<(), 
 
 #[test]
 fn on_the_chain(rt: HostRuntime) -> Result<(), Fail> {
-    let file = read(rt.alloc(), CHAIN)?;
+    let file = read_market(rt.alloc(), CHAIN.as_bytes())?;
     check_chain(&rt, rt.alloc(), &file)
 }
 
 #[test]
 fn on_the_alarm(rt: HostRuntime) -> Result<(), Fail> {
-    let file = read(rt.alloc(), ALARM)?;
+    let file = read_market(rt.alloc(), ALARM.as_bytes())?;
     check_alarm(&rt, rt.alloc(), &file)
 }

@@ -2,42 +2,14 @@
 
 ghost use Rattle.mk_tree.specs.Checked.{IsTreeOf};
 
-use crate::chances::{ALARM, at, expect_own, no_entries, read};
+use crate::chances::{ALARM, at, expect_own, no_entries};
 use mk_best::{Best, best};
-use mk_file::MarketFile;
+use mk_file::{MarketFile, read_market};
+use mk_fixtures::{COIN, WEATHER};
 use mk_net::Pair;
 use std::alloc::Global;
 use std::process::Abort;
 use std::test::Fail;
-
-/// One variable, whose two values have one weight.
-const COIN: &str = "points_per_bit = 1
-max_trades = 1
-cliques = [['coin']]
-links = []
-[[variable]]
-name = 'coin'
-values = ['heads', 'tails']
-parents = []
-rows = [[500000, 500000]]
-";
-
-/// Two seasons, in each of which it may rain.
-const WEATHER: &str = "points_per_bit = 1
-max_trades = 1
-cliques = [['season', 'rain']]
-links = []
-[[variable]]
-name = 'season'
-values = ['wet', 'dry']
-parents = []
-rows = [[400000, 600000]]
-[[variable]]
-name = 'rain'
-values = ['yes', 'no']
-parents = ['season']
-rows = [[700000, 300000], [100000, 900000]]
-";
 
 /// Stops unless the best state before any entry has these values, its share these bounds, and none
 /// a share above the last; or is impossible.
@@ -71,15 +43,17 @@ fn expect(
 
 #[test]
 fn of_a_coin(rt: HostRuntime) -> Result<(), Fail> {
-    let file = read(rt.alloc(), COIN)?;
+    let file = read_market(rt.alloc(), COIN.as_bytes())?;
     let half = Some((5000000000, 5000000000, 5000000000));
     expect(&rt, rt.alloc(), &file, &[], &[0], half)?;
     expect(&rt, rt.alloc(), &file, &[at(0, 0), at(0, 1)], &[], None)
 }
 
+// Its variables stand in one clique here.
 #[test]
 fn of_the_weather(rt: HostRuntime) -> Result<(), Fail> {
-    let file = read(rt.alloc(), WEATHER)?;
+    let text = WEATHER.replace(rt.alloc(), "], ['season']]\nlinks = [1]", "]]\nlinks = []")?;
+    let file = read_market(rt.alloc(), text.as_bytes())?;
     let dry = Some((5400000000, 5400000000, 5400000000));
     expect(&rt, rt.alloc(), &file, &[], &[1, 1], dry)?;
     let wet = Some((8235294117, 8235294118, 8235294118));
@@ -88,7 +62,7 @@ fn of_the_weather(rt: HostRuntime) -> Result<(), Fail> {
 
 #[test]
 fn of_the_alarm(rt: HostRuntime) -> Result<(), Fail> {
-    let file = read(rt.alloc(), ALARM)?;
+    let file = read_market(rt.alloc(), ALARM.as_bytes())?;
     let calls = [at(3, 0), at(4, 0)];
     let neither = Some((3013824614, 3013824615, 3013824615));
     expect(&rt, rt.alloc(), &file, &calls, &[1, 1, 0, 0, 0], neither)?;

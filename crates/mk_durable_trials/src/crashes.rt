@@ -4,22 +4,11 @@ ghost use Rattle.std.specs.Prelude.{◌≤◌};
 
 use mk_disk::{Choice, MemoryDisk};
 use mk_durable::keep;
+use mk_fixtures::COIN;
 use mk_io::{MemorySink, NamedFile, QuietInputs, Status};
 use std::alloc::{AllocError, Global};
 use std::process::Abort;
 use std::test::Fail;
-
-const COIN: &str = "points_per_bit = 100
-max_trades = 1000
-cliques = [['coin']]
-links = []
-
-[[variable]]
-name = 'coin'
-values = ['heads', 'tails']
-parents = []
-rows = [[500000, 500000]]
-";
 
 /// Two changes.
 const COMMANDS: &[u8] = b"user alice\ndeposit alice 1\n";

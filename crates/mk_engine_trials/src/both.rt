@@ -9,10 +9,10 @@ ghost use Rattle.mk_tree.specs.Checked.{IsTreeOf};
 ghost use Rattle.mk_joint.specs.inner.Joints.{joint_states};
 ghost use Rattle.mk_engine_trials.specs.Used.{IsInUse};
 
-use crate::engines::{A, About, B, C, Change, ask_in, event, home_of, ratio, start, tell};
-use crate::fixtures::{CHAIN, all_variables, holds_event, read};
+use crate::engines::{About, Change, ask_in, event, home_of, ratio, start, tell, tell_rows};
 use mk_engine::Engine;
-use mk_file::MarketFile;
+use mk_file::{MarketFile, read_market};
+use mk_fixtures::{A, B, C, CHAIN, D, NOT_A, NOT_B, NOT_C, WEATHER, all_variables, holds_event};
 use mk_joint::JointEngine;
 use mk_net::{Event, Network, NoMemory, Pair};
 use mk_semiring::{Held, MinProd, Semiring, SumProd};
@@ -20,7 +20,7 @@ use mk_tree::Tree;
 use mk_tree_engine::TreeEngine;
 use mk_user_engine::UserEngine;
 use mk_walk::{WalkTrade, least_gain, total};
-use std::alloc::Global;
+use std::alloc::{AllocError, Global};
 use std::process::Abort;
 use std::test::Fail;
 
@@ -138,13 +138,15 @@ fn check_each<R: Semiring<Value = Held>, E: Engine<R>>(
     }
 }
 
-/// A comparison of an engine with the walk over a file's network: the changes that both are told in
-/// turn, how many are told before beliefs are compared after each, and what both are asked of then.
+/// A comparison of an engine with the walk over a file's network: of how many variables the engine
+/// is told the rows, the changes that both are told in turn then, from how many things told on
+/// beliefs are compared, and what both are asked of.
 #[derive(Clone, Copy)]
 struct Comparison<'a> {
     file: &'a MarketFile,
+    rows: u32,
     changes: &'a [Change],
-    from: usize,
+    from: u32,
     asked: &'a [About],
 }
 
@@ -169,7 +171,8 @@ fn check_all<R: Semiring<Value = Held> + Walked, E: Engine<R>>(
     Ok(())
 }
 
-/// Tells an engine each change, and compares its beliefs after each from one on.
+/// Tells an engine each change, and compares its beliefs before each from one on, and behind the
+/// last.
 fn tell_all<R: Semiring<Value = Held> + Walked, E: Engine<R>>(
     rt: &impl Abort,
     alloc: Global,
@@ -177,23 +180,23 @@ fn tell_all<R: Semiring<Value = Held> + Walked, E: Engine<R>>(
     comparison: &Comparison,
     past: &mut Past,
 ) -> Result<(), Fail>
-    requires { IsInUse E.stands_for engine.old comparison.now.file.now 0 }
+    requires { IsInUse E.stands_for engine.old comparison.now.file.now comparison.now.rows }
 {
     let file = comparison.file;
-    let mut before = 0;
+    let mut before = comparison.rows;
     for change in comparison.changes {
         assert!(rt; before < 100);
+        if before >= comparison.from {
+            check_all::<R, E>(rt, alloc, engine, comparison, past, before)?;
+        }
         tell::<R, E>(rt, engine, file, change, before);
         before += 1;
         past.add(rt, &file.net, change)?;
-        if before as usize >= comparison.from {
-            check_all::<R, E>(rt, alloc, engine, comparison, past, before)?;
-        }
     }
-    Ok(())
+    check_all::<R, E>(rt, alloc, engine, comparison, past, before)
 }
 
-/// The same with an engine that was told nothing.
+/// The same with an engine that was told nothing, and is told the rows.
 fn follow<R: Semiring<Value = Held> + Walked, E: Engine<R>>(
     rt: &impl Abort,
     alloc: Global,
@@ -202,7 +205,9 @@ fn follow<R: Semiring<Value = Held> + Walked, E: Engine<R>>(
     requires tree { IsTreeOf comparison.now.file.now.net comparison.now.file.now.tree }
     requires suits { E.suits comparison.now.file.now.net comparison.now.file.now.tree }
 {
+    assert!(rt; comparison.rows <= 100);
     let mut engine = start::<R, E>(alloc, comparison.file)?;
+    tell_rows::<R, E>(rt, &mut engine, comparison.file, comparison.rows);
     let mut past = Past::new(alloc);
     tell_all::<R, E>(rt, alloc, &mut engine, comparison, &mut past)
 }
@@ -216,41 +221,44 @@ pub(crate) fn expect_few_states(alloc: Global, net: &Network) -> Result<(), Fail
     Ok(())
 }
 
-/// A network with a tree of it, how many rows an engine over it is told, and how many supports, what it is told then, and what it is
-/// asked.
+/// Pairs that are asked under another, or under none.
+struct Asked(Option<Pair>, &'static [Pair]);
+
+/// A network with a tree of it, the changes that an engine over it is told, how many of the first
+/// ones are supports, and what it is asked.
 struct Sample {
     file: &'static str,
-    rows: usize,
-    supports: usize,
     changes: &'static [Change],
-    asked: &'static [About],
+    supports: u32,
+    asked: &'static [Asked],
 }
 
-/// Over joint and tree engines, sums with the rows before the changes, and minima of the changes alone, once the supports are told.
+/// Over joint and tree engines, sums with the rows of all variables before the changes, and minima
+/// of the changes alone, once the supports are told; these over a user's engine too.
 fn follow_both(
     rt: &impl Abort,
     alloc: Global,
     file: &MarketFile,
     sample: &Sample,
+    asked: &[About],
 ) -> Result<(), Fail>
     requires tree { IsTreeOf file.now.net file.now.tree }
     requires few { joint_states file.now.net ≤ max_clique_cells }
 {
-    let (changes, rows) = (sample.changes, sample.rows);
-    assert!(rt; rows <= changes.len());
+    let (changes, variables) = (sample.changes, file.net.variables());
     let sums = Comparison {
         file,
+        rows: variables,
         changes,
-        from: rows,
-        asked: sample.asked,
+        from: variables,
+        asked,
     };
     follow::<SumProd, JointEngine<SumProd>>(rt, alloc, &sums)?;
     follow::<SumProd, TreeEngine<SumProd>>(rt, alloc, &sums)?;
     let minima = Comparison {
-        file,
-        changes: &changes[rows..],
+        rows: 0,
         from: sample.supports,
-        asked: sample.asked,
+        ..sums
     };
     follow::<MinProd, JointEngine<MinProd>>(rt, alloc, &minima)?;
     follow::<MinProd, TreeEngine<MinProd>>(rt, alloc, &minima)?;
@@ -266,95 +274,62 @@ fn follow_file(
     requires { IsTreeOf file.now.net file.now.tree }
 {
     expect_few_states(alloc, &file.net)?;
-    follow_both(rt, alloc, file, sample)
+    let asked = asked_of(alloc, sample.asked)?;
+    follow_both(rt, alloc, file, sample, &asked)
+}
+
+/// Each pair that is asked, with the one that it is asked under.
+fn asked_of(alloc: Global, lists: &[Asked]) -> Result<Vec<About>, AllocError> {
+    let mut asked = Vec::new(alloc);
+    for list in lists {
+        push_each(&mut asked, list)?;
+    }
+    Ok(asked)
+}
+
+fn push_each(asked: &mut Vec<About>, list: &Asked) -> Result<(), AllocError> {
+    for pair in list.1 {
+        asked.push(About(*pair, list.0))?;
+    }
+    Ok(())
 }
 
 fn follow_sample(rt: &impl Abort, alloc: Global, sample: &Sample) -> Result<(), Fail> {
-    let file = read(alloc, sample.file)?;
+    let file = read_market(alloc, sample.file.as_bytes())?;
     follow_file(rt, alloc, &file, sample)
 }
-
-const D: Pair = Pair {
-    variable: 3,
-    value: 0,
-};
-
-pub(crate) const NOT_A: Pair = Pair {
-    variable: 0,
-    value: 1,
-};
-
-const NOT_B: Pair = Pair {
-    variable: 1,
-    value: 1,
-};
-
-const NOT_C: Pair = Pair {
-    variable: 2,
-    value: 1,
-};
-
-/// A season and its rain, in the cliques {season, rain} and {season}.
-pub(crate) const WEATHER: &str = "points_per_bit = 1
-max_trades = 1
-cliques = [['season', 'rain'], ['season']]
-links = [1]
-[[variable]]
-name = 'season'
-values = ['wet', 'dry']
-parents = []
-rows = [[400000, 600000]]
-[[variable]]
-name = 'rain'
-values = ['yes', 'no']
-parents = ['season']
-rows = [[700000, 300000], [100000, 900000]]
-";
 
 /// A trade on rain in a wet season from 70 to 80 in a hundred, and then a dry season.
 const IN_WEATHER: Sample = Sample {
     file: WEATHER,
-    rows: 2,
-    supports: 0,
     changes: &[
-        Change::Rows(0),
-        Change::Rows(1),
         Change::Traded(About(B, Some(A)), 1256584717458, 733007751850),
         Change::Known(NOT_A),
     ],
+    supports: 0,
     asked: &[
-        About(A, None),
-        About(B, None),
-        About(NOT_A, None),
-        About(NOT_B, None),
-        About(B, Some(A)),
-        About(B, Some(NOT_A)),
+        Asked(None, &[A, B, NOT_A, NOT_B]),
+        Asked(Some(A), &[B]),
+        Asked(Some(NOT_A), &[B]),
     ],
 };
 
 /// Trades and known pairs at each end of the chain.
 const ALONG_CHAIN: Sample = Sample {
     file: CHAIN,
-    rows: 3,
-    supports: 0,
     changes: &[
-        Change::Rows(0),
-        Change::Rows(1),
-        Change::Rows(2),
         Change::Traded(About(C, Some(B)), 733007751850, 1256584717458),
         Change::Traded(About(A, None), 2, 3),
         Change::Traded(About(C, None), 7, 5),
         Change::Known(C),
         Change::Known(NOT_A),
     ],
+    supports: 0,
     asked: &[
-        About(A, None),
-        About(B, None),
-        About(C, None),
-        About(A, Some(B)),
-        About(B, Some(NOT_A)),
-        About(C, Some(B)),
-        About(C, Some(NOT_B)),
+        Asked(None, &[A, B, C]),
+        Asked(Some(B), &[A, C]),
+        Asked(Some(NOT_A), &[B]),
+        Asked(Some(NOT_B), &[C]),
     ],
 };
 
@@ -363,54 +338,33 @@ const STAR: &str = "points_per_bit = 1
 max_trades = 1
 cliques = [['a', 'b'], ['a', 'c'], ['b', 'd'], ['b']]
 links = [1, 1, 1]
-[[variable]]
-name = 'a'
-values = ['up', 'down']
-parents = []
-rows = [[250000, 750000]]
-[[variable]]
-name = 'b'
-values = ['low', 'mid', 'high']
-parents = ['a']
-rows = [[200000, 300000, 500000], [600000, 100000, 300000]]
-[[variable]]
-name = 'c'
-values = ['up', 'down']
-parents = ['a']
-rows = [[900000, 100000], [350000, 650000]]
-[[variable]]
-name = 'd'
-values = ['up', 'down']
-parents = ['b']
-rows = [[500000, 500000], [125000, 875000], [800000, 200000]]
+variable = [
+{name = 'a', values = ['up', 'down'], parents = [], rows = [[250000, 750000]]},
+{name = 'b', values = ['low', 'mid', 'high'], parents = ['a'], rows = [
+[200000, 300000, 500000], [600000, 100000, 300000]]},
+{name = 'c', values = ['up', 'down'], parents = ['a'], rows = [[900000, 100000], [350000, 650000]]},
+{name = 'd', values = ['up', 'down'], parents = ['b'], rows = [
+[500000, 500000], [125000, 875000], [800000, 200000]]},
+]
 ";
 
 /// Trades and known pairs in the middle of the star and at its ends.
 const IN_STAR: Sample = Sample {
     file: STAR,
-    rows: 4,
-    supports: 0,
     changes: &[
-        Change::Rows(0),
-        Change::Rows(1),
-        Change::Rows(2),
-        Change::Rows(3),
         Change::Traded(About(C, Some(A)), 1256584717458, 733007751850),
         Change::Traded(About(D, None), 3, 2),
         Change::Known(D),
         Change::Traded(About(B, None), 2, 5),
         Change::Known(NOT_B),
     ],
+    supports: 0,
     asked: &[
-        About(A, None),
-        About(B, None),
-        About(C, None),
-        About(D, None),
-        About(B, Some(A)),
-        About(C, Some(A)),
-        About(C, Some(NOT_A)),
-        About(D, Some(B)),
-        About(D, Some(NOT_B)),
+        Asked(None, &[A, B, C, D]),
+        Asked(Some(A), &[B, C]),
+        Asked(Some(NOT_A), &[C]),
+        Asked(Some(B), &[D]),
+        Asked(Some(NOT_B), &[D]),
     ],
 };
 
@@ -419,47 +373,31 @@ const NINES: &str = "points_per_bit = 1
 max_trades = 1
 cliques = [['a', 'b'], ['b', 'c']]
 links = [1]
-[[variable]]
-name = 'a'
-values = ['p', 'q', 'r', 's', 't', 'u', 'v', 'w', 'x']
-parents = []
-rows = [[200000, 100000, 100000, 100000, 100000, 100000, 100000, 100000, 100000]]
-[[variable]]
-name = 'b'
-values = ['p', 'q', 'r', 's', 't', 'u', 'v', 'w', 'x']
-parents = []
-rows = [[100000, 100000, 200000, 100000, 100000, 100000, 100000, 100000, 100000]]
-[[variable]]
-name = 'c'
-values = ['p', 'q']
-parents = []
-rows = [[700000, 300000]]
+variable = [
+{name = 'a', values = ['p', 'q', 'r', 's', 't', 'u', 'v', 'w', 'x'], parents = [], rows = [
+[200000, 100000, 100000, 100000, 100000, 100000, 100000, 100000, 100000]]},
+{name = 'b', values = ['p', 'q', 'r', 's', 't', 'u', 'v', 'w', 'x'], parents = [], rows = [
+[100000, 100000, 200000, 100000, 100000, 100000, 100000, 100000, 100000]]},
+{name = 'c', values = ['p', 'q'], parents = [], rows = [[700000, 300000]]},
+]
 ";
 
 /// A user's engine keeps two trades in groups apart, and goes over to its tree at the third, which would join 81 assignments.
 const IN_NINES: Sample = Sample {
     file: NINES,
-    rows: 3,
-    supports: 0,
     changes: &[
-        Change::Rows(0),
-        Change::Rows(1),
-        Change::Rows(2),
         Change::Traded(About(C, None), 2, 7),
         Change::Traded(About(B, None), 3, 5),
         Change::Known(NOT_C),
         Change::Traded(About(A, Some(B)), 733007751850, 1256584717458),
         Change::Known(NOT_A),
     ],
+    supports: 0,
     asked: &[
-        About(A, None),
-        About(B, None),
-        About(C, None),
-        About(NOT_C, None),
-        About(A, Some(B)),
-        About(B, Some(NOT_A)),
-        About(C, Some(B)),
-        About(NOT_C, Some(NOT_B)),
+        Asked(None, &[A, B, C, NOT_C]),
+        Asked(Some(B), &[A, C]),
+        Asked(Some(NOT_A), &[B]),
+        Asked(Some(NOT_B), &[NOT_C]),
     ],
 };
 
@@ -469,32 +407,18 @@ max_trades = 1
 zeros = true
 cliques = [['a', 'b'], ['b', 'c'], ['c']]
 links = [1, 2]
-[[variable]]
-name = 'a'
-values = ['up', 'down']
-parents = []
-rows = [[500000, 500000]]
-[[variable]]
-name = 'b'
-values = ['up', 'down']
-parents = ['a']
-rows = [[1000000, 0], [300000, 700000]]
-[[variable]]
-name = 'c'
-values = ['low', 'mid', 'high']
-parents = ['b']
-rows = [[0, 400000, 600000], [500000, 500000, 0]]
+variable = [
+{name = 'a', values = ['up', 'down'], parents = [], rows = [[500000, 500000]]},
+{name = 'b', values = ['up', 'down'], parents = ['a'], rows = [[1000000, 0], [300000, 700000]]},
+{name = 'c', values = ['low', 'mid', 'high'], parents = ['b'], rows = [
+[0, 400000, 600000], [500000, 500000, 0]]},
+]
 ";
 
 /// Trades where some states cannot come, before and after a known pair beside which another cannot.
 const AT_GATES: Sample = Sample {
     file: GATES,
-    rows: 3,
-    supports: 2,
     changes: &[
-        Change::Rows(0),
-        Change::Rows(1),
-        Change::Rows(2),
         Change::Support(1),
         Change::Support(2),
         Change::Traded(About(A, Some(B)), 1256584717458, 733007751850),
@@ -502,25 +426,22 @@ const AT_GATES: Sample = Sample {
         Change::Known(NOT_B),
         Change::Traded(About(C, None), 2, 5),
     ],
+    supports: 2,
     asked: &[
-        About(A, None),
-        About(B, None),
-        About(C, None),
-        About(NOT_B, None),
-        About(NOT_B, Some(A)),
-        About(C, Some(B)),
-        About(C, Some(NOT_B)),
-        About(B, Some(NOT_A)),
+        Asked(None, &[A, B, C, NOT_B]),
+        Asked(Some(A), &[NOT_B]),
+        Asked(Some(B), &[C]),
+        Asked(Some(NOT_B), &[C]),
+        Asked(Some(NOT_A), &[B]),
     ],
 };
 
 #[test]
 fn engines_are_as_walked(rt: HostRuntime) -> Result<(), Fail> {
-    follow_sample(&rt, rt.alloc(), &IN_WEATHER)?;
-    follow_sample(&rt, rt.alloc(), &ALONG_CHAIN)?;
-    follow_sample(&rt, rt.alloc(), &IN_STAR)?;
-    follow_sample(&rt, rt.alloc(), &IN_NINES)?;
-    follow_sample(&rt, rt.alloc(), &AT_GATES)
+    for sample in &[IN_WEATHER, ALONG_CHAIN, IN_STAR, IN_NINES, AT_GATES] {
+        follow_sample(&rt, rt.alloc(), sample)?;
+    }
+    Ok(())
 }
 
 /// Stops unless the walk finds each of these numbers, after so many changes.
@@ -564,7 +485,7 @@ fn expect_walked<R: Walked>(
     expected: &[(About, u128)],
 ) -> Result<(), Fail> {
     assert!(rt; made <= sample.changes.len());
-    let file = read(alloc, sample.file)?;
+    let file = read_market(alloc, sample.file.as_bytes())?;
     expect_on::<R>(rt, alloc, &file.net, &sample.changes[..made], expected)
 }
 
@@ -589,9 +510,9 @@ const OF_CHAIN: &[(About, u128)] = &[
 #[test]
 fn sums_of_the_walk(rt: HostRuntime) -> Result<(), Fail> {
     let known = &[(About(B, None), DRY_RAIN)];
-    expect_walked::<SumProd>(&rt, rt.alloc(), &IN_WEATHER, 3, IN_WET)?;
-    expect_walked::<SumProd>(&rt, rt.alloc(), &IN_WEATHER, 4, known)?;
-    expect_walked::<SumProd>(&rt, rt.alloc(), &ALONG_CHAIN, 3, OF_CHAIN)
+    expect_walked::<SumProd>(&rt, rt.alloc(), &IN_WEATHER, 1, IN_WET)?;
+    expect_walked::<SumProd>(&rt, rt.alloc(), &IN_WEATHER, 2, known)?;
+    expect_walked::<SumProd>(&rt, rt.alloc(), &ALONG_CHAIN, 0, OF_CHAIN)
 }
 
 // The units of the trade where the season is wet, and 2^40 elsewhere.
@@ -610,7 +531,7 @@ const LEAST_OF_CHAIN: &[(About, u128)] = &[
 #[test]
 fn minima_of_the_walk(rt: HostRuntime) -> Result<(), Fail> {
     let known = &[(About(NOT_B, None), 1_099_511_627_776)];
-    expect_walked::<MinProd>(&rt, rt.alloc(), &IN_WEATHER, 3, LEAST_IN_WET)?;
-    expect_walked::<MinProd>(&rt, rt.alloc(), &IN_WEATHER, 4, known)?;
-    expect_walked::<MinProd>(&rt, rt.alloc(), &ALONG_CHAIN, 8, LEAST_OF_CHAIN)
+    expect_walked::<MinProd>(&rt, rt.alloc(), &IN_WEATHER, 1, LEAST_IN_WET)?;
+    expect_walked::<MinProd>(&rt, rt.alloc(), &IN_WEATHER, 2, known)?;
+    expect_walked::<MinProd>(&rt, rt.alloc(), &ALONG_CHAIN, 5, LEAST_OF_CHAIN)
 }

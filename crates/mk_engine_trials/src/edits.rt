@@ -8,10 +8,10 @@ ghost use Rattle.mk_tree.specs.Held.{IsHeldAt};
 ghost use Rattle.mk_states.specs.OfNetwork.{IsPairOf};
 ghost use Rattle.mk_engine_trials.specs.Used.{IsInUse};
 
-use crate::engines::{About, Change, ask_in, event, home_of, start, tell};
-use crate::fixtures::{holds_event, read};
+use crate::engines::{About, Change, ask_in, event, home_of, start, tell, tell_rows};
 use mk_engine::Engine;
-use mk_file::MarketFile;
+use mk_file::{MarketFile, read_market};
+use mk_fixtures::holds_event;
 use mk_net::{Event, Pair};
 use mk_semiring::{Semiring, SumProd};
 use mk_tree::Tree;
@@ -208,66 +208,39 @@ fn expect_price(
 }
 
 /// The price of a day under the day before, whose condition has a home of its own.
-fn check_condition(
-    rt: &impl Abort,
-    engine: &mut TreeEngine<SumProd>,
-    file: &MarketFile,
-    row: &Behind,
-    before: u32,
-)
-    requires used { IsInUse ⟦<TreeEngine<SumProd> as Engine<SumProd>>⟧.stands_for
-        engine.old file.now before }
-    requires few { before < 99 }
-    ensures { IsInUse ⟦<TreeEngine<SumProd> as Engine<SumProd>>⟧.stands_for
-        engine.new file.now (before + 2) }
+fn under_day(rt: &impl Abort, file: &MarketFile, row: &Behind) -> Price
+    ensures part { AllByRecursion (IsPairOf file.now.net) result.part.event }
+    ensures whole { AllByRecursion (IsPairOf file.now.net) result.whole }
 {
     let Behind(edited, at, makes, in_home, _) = *row;
     assert!(rt; 1 <= at);
     let whole = event(rt, &file.net, &About(wet(at - 1), None));
     let event = event(rt, &file.net, &About(wet(at), Some(wet(at - 1))));
-    let price = Price {
+    Price {
         edited,
         part: Asked { event, at, makes },
         whole,
         elsewhere: home_of(rt, &file.tree, &whole),
         makes: in_home,
-    };
-    expect_price(rt, engine, file, &price, before);
+    }
 }
 
 /// The price of a day under no condition.
-fn check_all_states(
-    rt: &impl Abort,
-    engine: &mut TreeEngine<SumProd>,
-    file: &MarketFile,
-    row: &Behind,
-    before: u32,
-)
-    requires used { IsInUse ⟦<TreeEngine<SumProd> as Engine<SumProd>>⟧.stands_for
-        engine.old file.now before }
-    requires few { before < 99 }
-    ensures { IsInUse ⟦<TreeEngine<SumProd> as Engine<SumProd>>⟧.stands_for
-        engine.new file.now (before + 2) }
+fn under_none(rt: &impl Abort, file: &MarketFile, row: &Behind) -> Price
+    ensures part { AllByRecursion (IsPairOf file.now.net) result.part.event }
+    ensures whole { AllByRecursion (IsPairOf file.now.net) result.whole }
 {
     let Behind(edited, at, makes, _, in_first) = *row;
-    let event = event(rt, &file.net, &About(wet(at), None));
-    let price = Price {
+    Price {
         edited,
-        part: Asked { event, at, makes },
+        part: Asked {
+            event: event(rt, &file.net, &About(wet(at), None)),
+            at,
+            makes,
+        },
         whole: Event::empty(),
         elsewhere: 1,
         makes: in_first,
-    };
-    expect_price(rt, engine, file, &price, before);
-}
-
-/// Tells an engine the rows of each day.
-fn tell_days<R: Semiring, E: Engine<R>>(rt: &impl Abort, engine: &mut E, file: &MarketFile)
-    requires { IsInUse E.stands_for engine.old file.now 0 }
-    ensures { IsInUse E.stands_for engine.new file.now 20 }
-{
-    for day in 0..20 {
-        tell::<R, E>(rt, engine, file, &Change::Rows(day), day);
     }
 }
 
@@ -277,15 +250,15 @@ fn check_rows(rt: &impl Abort, alloc: Global, file: &MarketFile) -> Result<(), F
 {
     for row in PRICES {
         let mut engine = start::<SumProd, TreeEngine<SumProd>>(alloc, file)?;
-        tell_days(rt, &mut engine, file);
-        check_condition(rt, &mut engine, file, row, 20);
-        check_all_states(rt, &mut engine, file, row, 22);
+        tell_rows(rt, &mut engine, file, 20);
+        expect_price(rt, &mut engine, file, &under_day(rt, file, row), 20);
+        expect_price(rt, &mut engine, file, &under_none(rt, file, row), 22);
     }
     Ok(())
 }
 
 #[test]
 fn prices_behind_edits(rt: HostRuntime) -> Result<(), Fail> {
-    let file = read(rt.alloc(), DAYS)?;
+    let file = read_market(rt.alloc(), DAYS.as_bytes())?;
     check_rows(&rt, rt.alloc(), &file)
 }

@@ -1,6 +1,6 @@
 //! What engines are told and asked, each after so many changes, and how many messages that makes.
 
-ghost use Rattle.std.specs.Prelude.{◌≡◌, ◌+◌, ◌<◌, Some, IfOk};
+ghost use Rattle.std.specs.Prelude.{◌≡◌, ◌+◌, ◌<◌, ◌≤◌, [], ◌∷◌, Some, IfOk};
 ghost use Rattle.std.specs.List.{AllByRecursion};
 ghost use Rattle.mk_net.specs.Trades.{trade_ratio};
 ghost use Rattle.mk_states.specs.OfNetwork.{IsPairOf, IsQuestionOf, IsRatioOf};
@@ -9,9 +9,9 @@ ghost use Rattle.mk_tree.specs.Checked.{IsTreeOf};
 ghost use Rattle.mk_tree.specs.Held.{IsHeldAt};
 ghost use Rattle.mk_engine_trials.specs.Used.{IsInUse};
 
-use crate::fixtures::{CHAIN, check_exact, only, read};
 use mk_engine::Engine;
-use mk_file::MarketFile;
+use mk_file::{MarketFile, read_market};
+use mk_fixtures::{A, B, C, CHAIN};
 use mk_net::{Event, Network, NoMemory, Pair, Question, Ratio};
 use mk_semiring::{Held, Semiring, SumProd};
 use mk_tree::Tree;
@@ -33,22 +33,6 @@ pub(crate) enum Change {
     Traded(About, u64, u64),
     Known(Pair),
 }
-
-/// The pairs of the first values of variables.
-pub(crate) const A: Pair = Pair {
-    variable: 0,
-    value: 0,
-};
-
-pub(crate) const B: Pair = Pair {
-    variable: 1,
-    value: 0,
-};
-
-pub(crate) const C: Pair = Pair {
-    variable: 2,
-    value: 0,
-};
 
 /// Stops unless the pair is one of the network's.
 fn check_pair(rt: &impl Abort, net: &Network, pair: Pair)
@@ -109,6 +93,13 @@ pub(crate) fn home_of(rt: &impl Abort, tree: &Tree, event: &Event) -> u32
     tree.home(event).expect(rt, "a home")
 }
 
+/// The event of one pair.
+fn only(rt: &impl Abort, pair: Pair) -> Event
+    ensures { result ≡ pair ∷ [] }
+{
+    Event::empty().with(pair).expect(rt, "a pair")
+}
+
 /// Tells an engine, after so many changes.
 pub(crate) fn tell<R: Semiring, E: Engine<R>>(
     rt: &impl Abort,
@@ -139,6 +130,22 @@ pub(crate) fn tell<R: Semiring, E: Engine<R>>(
             check_pair(rt, net, pair);
             engine.know(home_of(rt, tree, &only(rt, pair)), pair);
         }
+    }
+}
+
+/// Tells an engine the rows of the first variables, so many.
+pub(crate) fn tell_rows<R: Semiring, E: Engine<R>>(
+    rt: &impl Abort,
+    engine: &mut E,
+    file: &MarketFile,
+    count: u32,
+)
+    requires used { IsInUse E.stands_for engine.old file.now 0 }
+    requires few { count ≤ 100 }
+    ensures { IsInUse E.stands_for engine.new file.now count }
+{
+    for variable in 0..count {
+        tell::<R, E>(rt, engine, file, &Change::Rows(variable), variable);
     }
 }
 
@@ -192,6 +199,18 @@ pub(crate) fn start<R: Semiring, E: Engine<R>>(
 #[derive(Clone, Copy)]
 pub(crate) struct Exact(pub(crate) u64, pub(crate) u64);
 
+/// Stops unless the value is a mantissa times a power of two, exactly.
+fn check_exact(rt: &impl Abort, held: &Held, mantissa: u64, exponent: u64) {
+    match held {
+        Held::Absent => assert!(rt; mantissa == 0),
+        Held::Present(enclosure) => {
+            let (low, high) = (enclosure.lo(), enclosure.hi());
+            assert!(rt; low.mantissa() == mantissa && low.exponent() == exponent);
+            assert!(rt; high.mantissa() == mantissa && high.exponent() == exponent);
+        }
+    }
+}
+
 /// Stops unless this is exactly the belief in an event, after so many changes.
 pub(crate) fn expect<R: Semiring<Value = Held>, E: Engine<R>>(
     rt: &impl Abort,
@@ -236,9 +255,7 @@ fn expect_made(
 fn check_messages(rt: &impl Abort, engine: &mut TreeEngine<SumProd>, file: &MarketFile)
     requires { IsInUse ⟦<TreeEngine<SumProd> as Engine<SumProd>>⟧.stands_for engine.old file.now 0 }
 {
-    tell(rt, engine, file, &Change::Rows(0), 0);
-    tell(rt, engine, file, &Change::Rows(1), 1);
-    tell(rt, engine, file, &Change::Rows(2), 2);
+    tell_rows(rt, engine, file, 3);
     expect_made(rt, engine, file, C, 3, Made(415_000_000_000_000_000, 2));
     expect_made(rt, engine, file, C, 3, Made(415_000_000_000_000_000, 2));
     tell(rt, engine, file, &Change::Traded(About(A, None), 2, 3), 3);
@@ -257,6 +274,6 @@ fn check_stale(rt: &impl Abort, alloc: Global, file: &MarketFile) -> Result<(), 
 
 #[test]
 fn stale_messages(rt: HostRuntime) -> Result<(), Fail> {
-    let file = read(rt.alloc(), CHAIN)?;
+    let file = read_market(rt.alloc(), CHAIN.as_bytes())?;
     check_stale(&rt, rt.alloc(), &file)
 }

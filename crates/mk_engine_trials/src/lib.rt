@@ -9,6 +9,4 @@ mod edits;
 #[cfg(test)]
 mod engines;
 #[cfg(test)]
-mod fixtures;
-#[cfg(test)]
 mod weather;

@@ -5,11 +5,11 @@ ghost use Rattle.mk_tree.specs.Checked.{IsTreeOf};
 ghost use Rattle.mk_states.specs.OfNetwork.{IsPairOf};
 ghost use Rattle.mk_engine_trials.specs.Used.{IsInUse};
 
-use crate::both::{NOT_A, WEATHER, expect_few_states};
-use crate::engines::{A, About, B, Change, Exact, ask, event, expect, start, tell};
-use crate::fixtures::read;
+use crate::both::expect_few_states;
+use crate::engines::{About, Change, Exact, ask, event, expect, start, tell, tell_rows};
 use mk_engine::Engine;
-use mk_file::MarketFile;
+use mk_file::{MarketFile, read_market};
+use mk_fixtures::{A, B, NOT_A, WEATHER};
 use mk_joint::JointEngine;
 use mk_net::Event;
 use mk_semiring::{Held, MinProd, Semiring, SumProd};
@@ -65,8 +65,7 @@ fn check_wet<R: Semiring<Value = Held>, E: Engine<R>>(
     requires { IsInUse E.stands_for engine.old file.now 0 }
 {
     let (rain, all) = (event(rt, &file.net, &About(B, None)), Event::empty());
-    tell::<R, E>(rt, engine, file, &Change::Rows(0), 0);
-    tell::<R, E>(rt, engine, file, &Change::Rows(1), 1);
+    tell_rows::<R, E>(rt, engine, file, 2);
     expect::<R, E>(rt, engine, file, &rain, 2, whole(known.rain));
     expect::<R, E>(rt, engine, file, &all, 2, whole(known.all));
     tell::<R, E>(rt, engine, file, &Change::Known(A), 2);
@@ -99,8 +98,7 @@ fn check_dry<R: Semiring<Value = Held>, E: Engine<R>>(
 )
     requires { IsInUse E.stands_for engine.old file.now 0 }
 {
-    tell::<R, E>(rt, engine, file, &Change::Rows(0), 0);
-    tell::<R, E>(rt, engine, file, &Change::Rows(1), 1);
+    tell_rows::<R, E>(rt, engine, file, 2);
     tell::<R, E>(rt, engine, file, &TRADE, 2);
     let dry_rain = event(rt, &file.net, &About(B, Some(NOT_A)));
     expect::<R, E>(rt, engine, file, &dry_rain, 3, DRY_RAIN);
@@ -174,6 +172,6 @@ fn check_engines(rt: &impl Abort, alloc: Global, file: &MarketFile) -> Result<()
 
 #[test]
 fn beliefs_in_weather(rt: HostRuntime) -> Result<(), Fail> {
-    let file = read(rt.alloc(), WEATHER)?;
+    let file = read_market(rt.alloc(), WEATHER.as_bytes())?;
     check_engines(&rt, rt.alloc(), &file)
 }

@@ -2,24 +2,13 @@
 
 use arrayvec::ArrayString;
 use mk_file::{FileFault, MarketFile, print_fault, read_market};
+use mk_fixtures::{CHAIN, COIN, GATE, WEATHER};
 use mk_net::Network;
 use mk_sets::VarSet;
 use mk_tree::Tree;
 use std::alloc::Global;
 use std::process::Abort;
 use std::test::Fail;
-
-const COIN: &str = "points_per_bit = 100
-max_trades = 77
-cliques = [['coin']]
-links = []
-
-[[variable]]
-name = 'coin'
-values = ['heads', 'tails']
-parents = []
-rows = [[500000, 500000]]
-";
 
 /// Each variable with another number of values and of parents.
 const THREE: &str = "points_per_bit = 100
@@ -46,107 +35,18 @@ parents = ['a', 'b']
 rows = [[1, 999999], [2, 999998], [3, 999997], [4, 999996], [5, 999995], [6, 999994]]
 ";
 
-/// Its cliques are linked in a row.
-const CHAIN: &str = "points_per_bit = 100
-max_trades = 77
-cliques = [['a', 'b'], ['b', 'c'], ['c']]
-links = [1, 2]
-
-[[variable]]
-name = 'a'
-values = ['up', 'down']
-parents = []
-rows = [[500000, 500000]]
-
-[[variable]]
-name = 'b'
-values = ['up', 'down']
-parents = ['a']
-rows = [[600000, 400000], [300000, 700000]]
-
-[[variable]]
-name = 'c'
-values = ['up', 'down']
-parents = ['b']
-rows = [[800000, 200000], [100000, 900000]]
-";
-
-/// Its second clique holds the first variable alone.
-pub(crate) const WEATHER: &str = "points_per_bit = 100
-max_trades = 77
-cliques = [['season', 'rain'], ['season']]
-links = [1]
-
-[[variable]]
-name = 'season'
-values = ['wet', 'dry']
-parents = []
-rows = [[400000, 600000]]
-
-[[variable]]
-name = 'rain'
-values = ['yes', 'no']
-parents = ['season']
-rows = [[700000, 300000], [100000, 900000]]
-";
-
-/// A variable stands in two cliques that are linked through one without it.
-const APART: &str = "points_per_bit = 100
-max_trades = 77
-cliques = [['a'], ['b'], ['a']]
-links = [1, 2]
-
-[[variable]]
-name = 'a'
-values = ['up', 'down']
-parents = []
-rows = [[500000, 500000]]
-
-[[variable]]
-name = 'b'
-values = ['up', 'down']
-parents = []
-rows = [[500000, 500000]]
-";
-
 /// A cup of four: two matches, and the winner, who won one of them.
 pub(crate) const CUP: &str = "points_per_bit = 100
 max_trades = 1000
 cliques = [['s1', 's2', 'w']]
 links = []
 zeros = true
-
-[[variable]]
-name = 's1'
-values = ['a', 'b']
-parents = []
-rows = [[500000, 500000]]
-
-[[variable]]
-name = 's2'
-values = ['c', 'd']
-parents = []
-rows = [[500000, 500000]]
-
-[[variable]]
-name = 'w'
-values = ['a', 'b', 'c', 'd']
-parents = ['s1', 's2']
-rows = [[500000, 0, 500000, 0], [500000, 0, 0, 500000], [0, 500000, 500000, 0], [0, 500000, 0, 500000]]
-";
-
-/// Its last value cannot come.
-const GATE: &str = "points_per_bit = 100
-max_trades = 1000
-cliques = [['gate']]
-links = []
-zeros = true
-
-[[variable]]
-name = 'gate'
-values = ['open', 'shut', 'gone']
-parents = []
-rows = [[250000, 750000, 0]]
+variable = [
+{name = 's1', values = ['a', 'b'], parents = [], rows = [[500000, 500000]]},
+{name = 's2', values = ['c', 'd'], parents = [], rows = [[500000, 500000]]},
+{name = 'w', values = ['a', 'b', 'c', 'd'], parents = ['s1', 's2'], rows = [
+[500000, 0, 500000, 0], [500000, 0, 0, 500000], [0, 500000, 500000, 0], [0, 500000, 0, 500000]]},
+]
 ";
 
 const NAMES: &str = "a b c d e f g h i j k l m";
@@ -302,12 +202,12 @@ zeros = true ->  => refused market entry 3 1 2
 zeros = true -> zeros = 1 => refused market type zeros 0
 zeros = true -> zeros = "true" => refused market type zeros 0
 zeros = true -> zeros = [true] => refused market type zeros 0
-zeros = true -> [zeros] => refused market type zeros 0
+zeros = true -> zeros = {} => refused market type zeros 0
 zeros = true -> zeros = 1; links = [] ->  => refused market missing links 0
 zeros = true -> zeros = 1; max_trades = 1000 -> max_trades = 0 => refused market type zeros 0
-zeros = true -> zeros = 1; name = 's1' ->  => refused market type zeros 0
+zeros = true -> zeros = 1; name = 's1', ->  => refused market type zeros 0
 zeros = true -> zero = true => refused market entry 3 1 2
-zeros = true\n -> ; name = 's1' -> zeros = true\nname = 's1' => refused market entry 3 1 2
+zeros = true\n -> ; name = 's1' -> zeros = true, name = 's1' => refused market entry 3 1 2
 500000, 0, 0, 500000 -> 500000, 0, 0, 500001 => refused market sum 3 2 1000001"#;
 
 const OF_GATE: &str = r#"points_per_bit -> points_per_bit => accepted
@@ -351,6 +251,14 @@ pub(crate) fn replaced(
         let (old, new) = edit.split_once(" -> ").ok_or("no arrow")?;
         text = text.replace(alloc, old, new)?;
     }
+    Ok(text)
+}
+
+/// A file where a variable stands in two cliques that are linked through one without it.
+fn apart(alloc: Global) -> Result<String, Fail> {
+    let mut text = String::from_str(alloc, NUMBERS)?;
+    text.push_str("cliques = [['a'], ['b'], ['a']]\nlinks = [1, 2]\n")?;
+    put_each(&mut text, "[[variable]]\nname = '", 2, SIDES)?;
     Ok(text)
 }
 
@@ -426,14 +334,13 @@ fn edited_files(rt: HostRuntime) -> Result<(), Fail> {
         (THREE, OF_THREE),
         (CHAIN, OF_CHAIN),
         (WEATHER, OF_WEATHER),
-        (APART, OF_APART),
         (CUP, OF_CUP),
         (GATE, OF_GATE),
         (GATE, OF_NUMBERS),
     ] {
         expect_each(&rt, rt.alloc(), base, cases)?;
     }
-    Ok(())
+    expect_each(&rt, rt.alloc(), apart(rt.alloc())?.as_str(), OF_APART)
 }
 
 #[test]

@@ -10,5 +10,3 @@ mod files;
 mod names;
 #[cfg(test)]
 mod networks;
-#[cfg(test)]
-mod rows;

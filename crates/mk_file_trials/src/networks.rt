@@ -1,7 +1,8 @@
 //! The network of a market file: its names and rows, and what is found in it.
 
-use crate::files::{CUP, WEATHER};
+use crate::files::CUP;
 use mk_file::{MarketFile, read_market};
+use mk_fixtures::WEATHER;
 use mk_net::{Name, Network, Pair, PairText};
 use std::process::Abort;
 use std::test::Fail;

@@ -5,8 +5,6 @@
 #[cfg(test)]
 mod assets;
 #[cfg(test)]
-mod coin;
-#[cfg(test)]
 mod parts;
 #[cfg(test)]
 mod runs;

@@ -2,17 +2,25 @@
 //! number of 64 digits that is not above it, and a sum that of its parts, each cut to the places of the
 //! greatest cell. A product in a sum or a least is cut to the first 64 of its 128 places before: where the
 //! first of them is 0, so is the last of the 64 digits.
-ghost use Rattle.std.specs.Prelude.{◌≡◌, length, slice_index};
+ghost use Rattle.std.specs.Prelude.{◌≡◌, ◌≤◌, length, slice_index};
 ghost use Rattle.mk_cell.specs.Cell.{AreCells, IsCell};
+ghost use Rattle.mk_cell.specs.Products.{AreUnrounded};
 
 use crate::enclosures::{self, check_ends};
-use crate::products::unrounded;
-use mk_cell::{Cell, least, least_of_products, sum, sum_of_products, times_each};
+use mk_cell::{Cell, first_places, least, least_of_products, sum, sum_of_products, times_each};
 use mk_enclose::Enclosure;
 use std::process::Abort;
 
 /// Digits and an exponent.
 pub(crate) type Parts = (u64, u32);
+
+/// The first and the last number of 64 digits.
+pub(crate) const HALF: u64 = 1 << 63;
+
+pub(crate) const MOST: u64 = u64::MAX;
+
+/// The exponent of a cell whose digits are its number.
+pub(crate) const BIAS: u32 = 5 << 28;
 
 /// Two cells and their product.
 struct Pair {
@@ -41,278 +49,108 @@ struct Products {
     least: Parts,
 }
 
-const PAIRS: [Pair; 8] = [
-    Pair {
-        left: (9223372036854775808, 1342177280),
-        right: (9223372036854775808, 1342177280),
-        product: (9223372036854775808, 1342177343),
-    },
-    Pair {
-        left: (18446744073709551615, 1342177280),
-        right: (18446744073709551615, 1342177280),
-        product: (18446744073709551614, 1342177344),
-    },
-    Pair {
-        left: (9223372036854775808, 1342177280),
-        right: (18446744073709551615, 1342177280),
-        product: (18446744073709551615, 1342177343),
-    },
-    Pair {
-        left: (9223372036854775809, 1342177280),
-        right: (18446744073709551615, 1342177280),
-        product: (9223372036854775808, 1342177344),
-    },
-    Pair {
-        left: (0, 0),
-        right: (18446744073709551615, 1342177285),
-        product: (0, 0),
-    },
-    Pair {
-        left: (13043817825332782212, 1342177280),
-        right: (13043817825332782212, 1342177280),
-        product: (18446744073709551615, 1342177343),
-    },
-    Pair {
-        left: (13043817825332782213, 1342177280),
-        right: (13043817825332782213, 1342177280),
-        product: (9223372036854775808, 1342177344),
-    },
-    Pair {
-        left: (18446744073709551614, 1342177283),
-        right: (9223372036854775809, 1342177273),
-        product: (18446744073709551615, 1342177339),
-    },
-];
+/// Rows `left * right = product`.
+macro_rules! pairs {
+    ($($left:tt * $right:tt = $product:tt;)*) => {
+        [$(Pair {
+            left: $left,
+            right: $right,
+            product: $product,
+        }),*]
+    };
+}
 
-const ROWS: [Row; 12] = [
-    Row {
-        digits: [
-            18446744073709551615,
-            18446744073709551615,
-            18446744073709551615,
-        ],
-        exponents: [1342177280, 1342177280, 1342177280],
-        sum: (13835058055282163711, 1342177282),
-        least: (18446744073709551615, 1342177280),
-    },
-    Row {
-        digits: [
-            9223372036854775808,
-            18446744073709551615,
-            18446744073709551615,
-        ],
-        exponents: [1342177344, 1342177280, 1342177280],
-        sum: (9223372036854775808, 1342177344),
-        least: (18446744073709551615, 1342177280),
-    },
-    Row {
-        digits: [9223372036854775808, 18446744073709551615, 0],
-        exponents: [1342177343, 1342177280, 0],
-        sum: (9223372036854775809, 1342177343),
-        least: (18446744073709551615, 1342177280),
-    },
-    Row {
-        digits: [18446744073709551615, 9223372036854775808, 0],
-        exponents: [1342177280, 1342177217, 0],
-        sum: (9223372036854775808, 1342177281),
-        least: (9223372036854775808, 1342177217),
-    },
-    Row {
-        digits: [18446744073709551615, 9223372036854775808, 0],
-        exponents: [1342177280, 1342177216, 0],
-        sum: (18446744073709551615, 1342177280),
-        least: (9223372036854775808, 1342177216),
-    },
-    Row {
-        digits: [0, 0, 0],
-        exponents: [0, 0, 0],
-        sum: (0, 0),
-        least: (0, 0),
-    },
-    Row {
-        digits: [0, 9223372036854775808, 9223372036854775808],
-        exponents: [0, 1342107280, 1342247280],
-        sum: (9223372036854775808, 1342247280),
-        least: (9223372036854775808, 1342107280),
-    },
-    Row {
-        digits: [
-            18446744073709551615,
-            9223372036854775808,
-            9223372036854775809,
-        ],
-        exponents: [1342177280, 1342177280, 1342177280],
-        sum: (9223372036854775808, 1342177282),
-        least: (9223372036854775808, 1342177280),
-    },
-    Row {
-        digits: [9223372036854775808, 18446744073709551615, 0],
-        exponents: [1342177280, 1342177279, 0],
-        sum: (18446744073709551615, 1342177280),
-        least: (18446744073709551615, 1342177279),
-    },
-    Row {
-        digits: [
-            18446744073709551615,
-            18446744073709551615,
-            18446744073709551615,
-        ],
-        exponents: [1342177281, 1342177280, 1342177279],
-        sum: (16140901064495857662, 1342177282),
-        least: (18446744073709551615, 1342177279),
-    },
-    Row {
-        digits: [9223372036854775808, 9223372036854775808, 0],
-        exponents: [1342177280, 1342177280, 0],
-        sum: (9223372036854775808, 1342177281),
-        least: (9223372036854775808, 1342177280),
-    },
-    Row {
-        digits: [
-            18446744073709551614,
-            9223372036854775808,
-            9223372036854775808,
-        ],
-        exponents: [1342177320, 1342177320, 1342177319],
-        sum: (16140901064495857663, 1342177321),
-        least: (9223372036854775808, 1342177319),
-    },
-];
+/// Rows of digits and exponents, with the sum and the least.
+macro_rules! rows {
+    ($($digits:tt $exponents:tt: $sum:tt $least:tt;)*) => {
+        [$(Row {
+            digits: $digits,
+            exponents: $exponents,
+            sum: $sum,
+            least: $least,
+        }),*]
+    };
+}
 
-const PRODUCTS: [Products; 13] = [
-    Products {
-        left_digits: [9223372036854775808, 9223372036854775808],
-        left_exponents: [1342177280, 1342177280],
-        right_digits: [9223372036854775808, 9223372036854775808],
-        right_exponents: [1342177280, 1342177280],
-        each_digits: [9223372036854775808, 9223372036854775808],
-        each_exponents: [1342177343, 1342177343],
-        sum: (9223372036854775808, 1342177344),
-        least: (9223372036854775808, 1342177343),
-    },
-    Products {
-        left_digits: [9223372036854775808, 0],
-        left_exponents: [1342177280, 0],
-        right_digits: [9223372036854775808, 9223372036854775808],
-        right_exponents: [1342177280, 1342177280],
-        each_digits: [9223372036854775808, 0],
-        each_exponents: [1342177343, 0],
-        sum: (9223372036854775808, 1342177343),
-        least: (9223372036854775808, 1342177343),
-    },
-    Products {
-        left_digits: [18446744073709551615, 18446744073709551615],
-        left_exponents: [1342177280, 1342177280],
-        right_digits: [18446744073709551615, 18446744073709551615],
-        right_exponents: [1342177280, 1342177280],
-        each_digits: [18446744073709551614, 18446744073709551614],
-        each_exponents: [1342177344, 1342177344],
-        sum: (18446744073709551614, 1342177345),
-        least: (18446744073709551614, 1342177344),
-    },
-    Products {
-        left_digits: [18446744073709551615, 9223372036854775808],
-        left_exponents: [1342177280, 1342177280],
-        right_digits: [18446744073709551615, 9223372036854775808],
-        right_exponents: [1342177280, 1342177281],
-        each_digits: [18446744073709551614, 9223372036854775808],
-        each_exponents: [1342177344, 1342177344],
-        sum: (13835058055282163711, 1342177345),
-        least: (9223372036854775808, 1342177344),
-    },
-    Products {
-        left_digits: [18446744073709551615, 9223372036854775808],
-        left_exponents: [1342177280, 1342177281],
-        right_digits: [18446744073709551615, 9223372036854775808],
-        right_exponents: [1342177280, 1342177281],
-        each_digits: [18446744073709551614, 9223372036854775808],
-        each_exponents: [1342177344, 1342177345],
-        sum: (18446744073709551614, 1342177345),
-        least: (18446744073709551614, 1342177344),
-    },
-    Products {
-        left_digits: [0, 18446744073709551615],
-        left_exponents: [0, 1342177289],
-        right_digits: [9223372036854775808, 18446744073709551615],
-        right_exponents: [1342177280, 1342247280],
-        each_digits: [0, 18446744073709551614],
-        each_exponents: [0, 1342247353],
-        sum: (18446744073709551614, 1342247353),
-        least: (18446744073709551614, 1342247353),
-    },
-    Products {
-        left_digits: [0, 9223372036854775808],
-        left_exponents: [0, 1342177280],
-        right_digits: [18446744073709551615, 0],
-        right_exponents: [1342177280, 0],
-        each_digits: [0, 0],
-        each_exponents: [0, 0],
-        sum: (0, 0),
-        least: (0, 0),
-    },
-    Products {
-        left_digits: [9223372036854775808, 18446744073709551615],
-        left_exponents: [1342127280, 1342227280],
-        right_digits: [9223372036854775808, 18446744073709551615],
-        right_exponents: [1342157280, 1342197280],
-        each_digits: [9223372036854775808, 18446744073709551614],
-        each_exponents: [1342107343, 1342247344],
-        sum: (18446744073709551614, 1342247344),
-        least: (9223372036854775808, 1342107343),
-    },
-    Products {
-        left_digits: [18446744073709551615, 18446744073709551615],
-        left_exponents: [1342177344, 1342177280],
-        right_digits: [9223372036854775808, 18446744073709551615],
-        right_exponents: [1342177280, 1342177280],
-        each_digits: [18446744073709551615, 18446744073709551614],
-        each_exponents: [1342177407, 1342177344],
-        sum: (18446744073709551614, 1342177407),
-        least: (18446744073709551614, 1342177344),
-    },
-    Products {
-        left_digits: [18446744073709551615, 18446744073709551615],
-        left_exponents: [1342177343, 1342177280],
-        right_digits: [9223372036854775808, 18446744073709551615],
-        right_exponents: [1342177280, 1342177280],
-        each_digits: [18446744073709551615, 18446744073709551614],
-        each_exponents: [1342177406, 1342177344],
-        sum: (9223372036854775808, 1342177407),
-        least: (18446744073709551614, 1342177344),
-    },
-    Products {
-        left_digits: [9223372036854775809, 9223372036854775808],
-        left_exponents: [1342177280, 1342177280],
-        right_digits: [9223372036854775809, 9223372036854775811],
-        right_exponents: [1342177280, 1342177280],
-        each_digits: [9223372036854775810, 9223372036854775811],
-        each_exponents: [1342177343, 1342177343],
-        sum: (9223372036854775810, 1342177344),
-        least: (9223372036854775810, 1342177343),
-    },
+/// Rows of digits and exponents times others, with those of each product, the sum and the least.
+macro_rules! products {
+    ($($left_digits:tt $left_exponents:tt * $right_digits:tt $right_exponents:tt
+        = $each_digits:tt $each_exponents:tt: $sum:tt $least:tt;)*) => {
+        [$(Products {
+            left_digits: $left_digits,
+            left_exponents: $left_exponents,
+            right_digits: $right_digits,
+            right_exponents: $right_exponents,
+            each_digits: $each_digits,
+            each_exponents: $each_exponents,
+            sum: $sum,
+            least: $least,
+        }),*]
+    };
+}
+
+const PAIRS: [Pair; 8] = pairs! {
+    (HALF, BIAS) * (HALF, BIAS) = (HALF, BIAS + 63);
+    (MOST, BIAS) * (MOST, BIAS) = (MOST - 1, BIAS + 64);
+    (HALF, BIAS) * (MOST, BIAS) = (MOST, BIAS + 63);
+    (HALF + 1, BIAS) * (MOST, BIAS) = (HALF, BIAS + 64);
+    (0, 0) * (MOST, BIAS + 5) = (0, 0);
+    (13043817825332782212, BIAS) * (13043817825332782212, BIAS) = (MOST, BIAS + 63);
+    (13043817825332782213, BIAS) * (13043817825332782213, BIAS) = (HALF, BIAS + 64);
+    (MOST - 1, BIAS + 3) * (HALF + 1, BIAS - 7) = (MOST, BIAS + 59);
+};
+
+const ROWS: [Row; 12] = rows! {
+    [MOST, MOST, MOST] [BIAS, BIAS, BIAS]: (13835058055282163711, BIAS + 2) (MOST, BIAS);
+    [HALF, MOST, MOST] [BIAS + 64, BIAS, BIAS]: (HALF, BIAS + 64) (MOST, BIAS);
+    [HALF, MOST, 0] [BIAS + 63, BIAS, 0]: (HALF + 1, BIAS + 63) (MOST, BIAS);
+    [MOST, HALF, 0] [BIAS, BIAS - 63, 0]: (HALF, BIAS + 1) (HALF, BIAS - 63);
+    [MOST, HALF, 0] [BIAS, BIAS - 64, 0]: (MOST, BIAS) (HALF, BIAS - 64);
+    [0, 0, 0] [0, 0, 0]: (0, 0) (0, 0);
+    [0, HALF, HALF] [0, BIAS - 70000, BIAS + 70000]: (HALF, BIAS + 70000) (HALF, BIAS - 70000);
+    [MOST, HALF, HALF + 1] [BIAS, BIAS, BIAS]: (HALF, BIAS + 2) (HALF, BIAS);
+    [HALF, MOST, 0] [BIAS, BIAS - 1, 0]: (MOST, BIAS) (MOST, BIAS - 1);
+    [MOST, MOST, MOST] [BIAS + 1, BIAS, BIAS - 1]:
+        (16140901064495857662, BIAS + 2) (MOST, BIAS - 1);
+    [HALF, HALF, 0] [BIAS, BIAS, 0]: (HALF, BIAS + 1) (HALF, BIAS);
+    [MOST - 1, HALF, HALF] [BIAS + 40, BIAS + 40, BIAS + 39]:
+        (16140901064495857663, BIAS + 41) (HALF, BIAS + 39);
+};
+
+const PRODUCTS: [Products; 13] = products! {
+    [HALF, HALF] [BIAS, BIAS] * [HALF, HALF] [BIAS, BIAS]
+        = [HALF, HALF] [BIAS + 63, BIAS + 63]: (HALF, BIAS + 64) (HALF, BIAS + 63);
+    [HALF, 0] [BIAS, 0] * [HALF, HALF] [BIAS, BIAS]
+        = [HALF, 0] [BIAS + 63, 0]: (HALF, BIAS + 63) (HALF, BIAS + 63);
+    [MOST, MOST] [BIAS, BIAS] * [MOST, MOST] [BIAS, BIAS]
+        = [MOST - 1, MOST - 1] [BIAS + 64, BIAS + 64]: (MOST - 1, BIAS + 65) (MOST - 1, BIAS + 64);
+    [MOST, HALF] [BIAS, BIAS] * [MOST, HALF] [BIAS, BIAS + 1]
+        = [MOST - 1, HALF] [BIAS + 64, BIAS + 64]:
+        (13835058055282163711, BIAS + 65) (HALF, BIAS + 64);
+    [MOST, HALF] [BIAS, BIAS + 1] * [MOST, HALF] [BIAS, BIAS + 1]
+        = [MOST - 1, HALF] [BIAS + 64, BIAS + 65]: (MOST - 1, BIAS + 65) (MOST - 1, BIAS + 64);
+    [0, MOST] [0, BIAS + 9] * [HALF, MOST] [BIAS, BIAS + 70000]
+        = [0, MOST - 1] [0, BIAS + 70073]: (MOST - 1, BIAS + 70073) (MOST - 1, BIAS + 70073);
+    [0, HALF] [0, BIAS] * [MOST, 0] [BIAS, 0]
+        = [0, 0] [0, 0]: (0, 0) (0, 0);
+    [HALF, MOST] [BIAS - 50000, BIAS + 50000] * [HALF, MOST] [BIAS - 20000, BIAS + 20000]
+        = [HALF, MOST - 1] [BIAS - 69937, BIAS + 70064]:
+        (MOST - 1, BIAS + 70064) (HALF, BIAS - 69937);
+    [MOST, MOST] [BIAS + 64, BIAS] * [HALF, MOST] [BIAS, BIAS]
+        = [MOST, MOST - 1] [BIAS + 127, BIAS + 64]: (MOST - 1, BIAS + 127) (MOST - 1, BIAS + 64);
+    [MOST, MOST] [BIAS + 63, BIAS] * [HALF, MOST] [BIAS, BIAS]
+        = [MOST, MOST - 1] [BIAS + 126, BIAS + 64]: (HALF, BIAS + 127) (MOST - 1, BIAS + 64);
+    [HALF + 1, HALF] [BIAS, BIAS] * [HALF + 1, HALF + 3] [BIAS, BIAS]
+        = [HALF + 2, HALF + 3] [BIAS + 63, BIAS + 63]: (HALF + 2, BIAS + 64) (HALF + 2, BIAS + 63);
     // The least loses the last digit of its product.
-    Products {
-        left_digits: [9223372036854775808, 18446744073709551615],
-        left_exponents: [1342177280, 1342177280],
-        right_digits: [18446744073709551615, 18446744073709551615],
-        right_exponents: [1342177280, 1342177280],
-        each_digits: [18446744073709551615, 18446744073709551614],
-        each_exponents: [1342177343, 1342177344],
-        sum: (13835058055282163710, 1342177345),
-        least: (18446744073709551614, 1342177343),
-    },
+    [HALF, MOST] [BIAS, BIAS] * [MOST, MOST] [BIAS, BIAS]
+        = [MOST, MOST - 1] [BIAS + 63, BIAS + 64]:
+        (13835058055282163710, BIAS + 65) (MOST - 1, BIAS + 63);
     // The greater product has full places one place higher.
-    Products {
-        left_digits: [18446744073709551615, 18446744073709551615],
-        left_exponents: [1342177280, 1342177281],
-        right_digits: [18446744073709551615, 18446744073709551615],
-        right_exponents: [1342177280, 1342177280],
-        each_digits: [18446744073709551614, 18446744073709551614],
-        each_exponents: [1342177344, 1342177345],
-        sum: (13835058055282163710, 1342177346),
-        least: (18446744073709551614, 1342177344),
-    },
-];
+    [MOST, MOST] [BIAS, BIAS + 1] * [MOST, MOST] [BIAS, BIAS]
+        = [MOST - 1, MOST - 1] [BIAS + 64, BIAS + 65]:
+        (13835058055282163710, BIAS + 66) (MOST - 1, BIAS + 64);
+};
 
 /// Stops unless a cell has these digits and this exponent.
 pub(crate) fn expect_parts(rt: &impl Abort, cell: Cell, expected: Parts) {
@@ -359,6 +197,27 @@ fn check_row(rt: &impl Abort, row: &Row) {
     check_cells(rt, &row.digits, &row.exponents);
     expect_parts(rt, sum(&row.digits, &row.exponents), row.sum);
     expect_parts(rt, least(&row.digits, &row.exponents), row.least);
+}
+
+/// The first places of the products of cells, and the sums of their exponents.
+pub(crate) fn unrounded<const N: usize>(
+    left_digits: &[u64; N],
+    left_exponents: &[u32; N],
+    right_digits: &[u64; N],
+    right_exponents: &[u32; N],
+) -> ([u64; N], [u32; N])
+    requires small { N ≤ 64 }
+    requires left { AreCells left_digits.now left_exponents.now }
+    requires right { AreCells right_digits.now right_exponents.now }
+    ensures { AreUnrounded (slice_index left_digits.now) (slice_index left_exponents.now) (slice_index right_digits.now) (slice_index right_exponents.now) result.0 result.1 }
+{
+    let mut places = [0u64; N];
+    let mut exponents = [0u32; N];
+    for c in 0..N {
+        places[c] = first_places(left_digits[c], right_digits[c]);
+        exponents[c] = left_exponents[c] + right_exponents[c];
+    }
+    (places, exponents)
 }
 
 fn check_products(rt: &impl Abort, row: &Products) {

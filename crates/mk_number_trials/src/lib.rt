@@ -7,8 +7,6 @@ mod cells;
 #[cfg(test)]
 mod enclosures;
 #[cfg(test)]
-mod products;
-#[cfg(test)]
 mod scaled;
 #[cfg(test)]
 mod semirings;

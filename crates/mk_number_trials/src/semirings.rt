@@ -2,9 +2,8 @@
 //! product in a sum or a least is cut to the first 64 of its 128 places before.
 ghost use Rattle.std.specs.Prelude.{◌≤◌};
 
-use crate::cells::{Parts, check_cells, expect_parts};
+use crate::cells::{BIAS, HALF, MOST, Parts, check_cells, expect_parts, unrounded};
 use crate::enclosures::{self, check_ends};
-use crate::products::unrounded;
 use mk_cell::Cell;
 use mk_semiring::{Held, MinProd, Semiring, SumProd};
 use std::process::Abort;
@@ -32,164 +31,78 @@ struct Numbers {
     least: Ends,
 }
 
-const ROWS: [Row; 7] = [
-    // Equal exponents, and a carry.
-    Row {
-        digits: [
-            9223372036854775808,
-            18446744073709551615,
-            9223372036854775808,
-        ],
-        exponents: [1342177280, 1342177280, 1342177280],
-        other_digits: [
-            18446744073709551615,
-            18446744073709551615,
-            9223372036854775808,
-        ],
-        other_exponents: [1342177280, 1342177280, 1342177280],
-        sum: (18446744073709551615, 1342177281),
-        least: (9223372036854775808, 1342177280),
-        sum_of_products: (16140901064495857662, 1342177345),
-        least_of_products: (9223372036854775808, 1342177343),
-    },
-    // So far apart that nothing of the lesser is left.
-    Row {
-        digits: [
-            9223372036854775808,
-            18446744073709551615,
-            9223372036854775808,
-        ],
-        exponents: [1342177344, 1342177280, 1342177279],
-        other_digits: [
-            9223372036854775808,
-            18446744073709551615,
-            18446744073709551615,
-        ],
-        other_exponents: [1342177280, 1342177281, 1342177210],
-        sum: (9223372036854775808, 1342177344),
-        least: (9223372036854775808, 1342177279),
-        sum_of_products: (9223372036854775810, 1342177407),
-        least_of_products: (18446744073709551614, 1342177272),
-    },
-    // One digit of the lesser is left.
-    Row {
-        digits: [
-            9223372036854775808,
-            18446744073709551615,
-            9223372036854775808,
-        ],
-        exponents: [1342177343, 1342177280, 1342177280],
-        other_digits: [
-            9223372036854775808,
-            9223372036854775808,
-            18446744073709551615,
-        ],
-        other_exponents: [1342177280, 1342177217, 1342177281],
-        sum: (9223372036854775810, 1342177343),
-        least: (9223372036854775808, 1342177280),
-        sum_of_products: (9223372036854775810, 1342177406),
-        least_of_products: (18446744073709551614, 1342177280),
-    },
-    // Each product has an absent factor.
-    Row {
-        digits: [0, 18446744073709551615, 0],
-        exponents: [0, 1342177280, 0],
-        other_digits: [18446744073709551615, 0, 9223372036854775808],
-        other_exponents: [1342177289, 0, 1342177280],
-        sum: (18446744073709551615, 1342177280),
-        least: (18446744073709551615, 1342177280),
-        sum_of_products: (0, 0),
-        least_of_products: (0, 0),
-    },
-    // One cell is absent.
-    Row {
-        digits: [0, 18446744073709551615, 18446744073709551615],
-        exponents: [0, 1342177273, 1342177272],
-        other_digits: [
-            18446744073709551615,
-            9223372036854775808,
-            18446744073709551615,
-        ],
-        other_exponents: [1342177289, 1342177280, 1342177281],
-        sum: (13835058055282163711, 1342177274),
-        least: (18446744073709551615, 1342177272),
-        sum_of_products: (13835058055282163710, 1342177338),
-        least_of_products: (18446744073709551614, 1342177336),
-    },
-    // 2^63 - 1 in whole ones.
-    Row {
-        digits: [9223372036854775808, 18446744073709551612, 0],
-        exponents: [1342177279, 1342177278, 0],
-        other_digits: [
-            9223372036854775808,
-            9223372036854775808,
-            18446744073709551615,
-        ],
-        other_exponents: [1342177217, 1342177217, 1342177280],
-        sum: (18446744073709551614, 1342177279),
-        least: (18446744073709551612, 1342177278),
-        sum_of_products: (18446744073709551614, 1342177279),
-        least_of_products: (18446744073709551612, 1342177278),
-    },
-    // 2^63 in whole ones.
-    Row {
-        digits: [
-            9223372036854775808,
-            9223372036854775808,
-            9223372036854775808,
-        ],
-        exponents: [1342177278, 1342177278, 1342177279],
-        other_digits: [
-            9223372036854775808,
-            9223372036854775808,
-            9223372036854775808,
-        ],
-        other_exponents: [1342177217, 1342177217, 1342177217],
-        sum: (9223372036854775808, 1342177280),
-        least: (9223372036854775808, 1342177278),
-        sum_of_products: (9223372036854775808, 1342177280),
-        least_of_products: (9223372036854775808, 1342177278),
-    },
-];
+/// Rows of cells and other cells, with the sum and the least of the cells, and of the products.
+macro_rules! rows {
+    ($($digits:tt $exponents:tt * $other_digits:tt $other_exponents:tt
+        = $sum:tt $least:tt, $sum_of_products:tt $least_of_products:tt;)*) => {
+        [$(Row {
+            digits: $digits,
+            exponents: $exponents,
+            other_digits: $other_digits,
+            other_exponents: $other_exponents,
+            sum: $sum,
+            least: $least,
+            sum_of_products: $sum_of_products,
+            least_of_products: $least_of_products,
+        }),*]
+    };
+}
 
-const NUMBERS: [Numbers; 6] = [
-    Numbers {
-        left: 0,
-        right: 0,
-        sum: ((0, 0), (0, 0)),
-        least: ((0, 0), (0, 0)),
-    },
-    Numbers {
-        left: 0,
-        right: 5,
-        sum: ((5, 0), (5, 0)),
-        least: ((5, 0), (5, 0)),
-    },
-    Numbers {
-        left: 4611686018427387904,
-        right: 4611686018427387903,
-        sum: ((9223372036854775807, 0), (9223372036854775807, 0)),
-        least: ((4611686018427387903, 0), (4611686018427387903, 0)),
-    },
-    Numbers {
-        left: 4611686018427387904,
-        right: 4611686018427387904,
-        sum: ((9223372036854775808, 0), (9223372036854775815, 0)),
-        least: ((4611686018427387904, 0), (4611686018427387904, 0)),
-    },
-    Numbers {
-        left: 9223372036854775808,
-        right: 18446744073709551615,
-        sum: ((13835058055282163711, 1), (13835058055282163718, 1)),
-        least: ((9223372036854775808, 0), (9223372036854775815, 0)),
-    },
-    Numbers {
-        left: 18446744073709551615,
-        right: 18446744073709551615,
-        sum: ((18446744073709551615, 1), (9223372036854775811, 2)),
-        least: ((18446744073709551615, 0), (9223372036854775811, 1)),
-    },
-];
+/// Rows of two numbers, with the values of both semirings.
+macro_rules! numbers {
+    ($($left:literal, $right:literal: $sum:tt $least:tt;)*) => {
+        [$(Numbers {
+            left: $left,
+            right: $right,
+            sum: $sum,
+            least: $least,
+        }),*]
+    };
+}
+
+const ROWS: [Row; 7] = rows! {
+    // Equal exponents, and a carry.
+    [HALF, MOST, HALF] [BIAS, BIAS, BIAS] * [MOST, MOST, HALF] [BIAS, BIAS, BIAS]
+        = (MOST, BIAS + 1) (HALF, BIAS), (16140901064495857662, BIAS + 65) (HALF, BIAS + 63);
+    // So far apart that nothing of the lesser is left.
+    [HALF, MOST, HALF] [BIAS + 64, BIAS, BIAS - 1] * [HALF, MOST, MOST] [BIAS, BIAS + 1, BIAS - 70]
+        = (HALF, BIAS + 64) (HALF, BIAS - 1), (HALF + 2, BIAS + 127) (MOST - 1, BIAS - 8);
+    // One digit of the lesser is left.
+    [HALF, MOST, HALF] [BIAS + 63, BIAS, BIAS] * [HALF, HALF, MOST] [BIAS, BIAS - 63, BIAS + 1]
+        = (HALF + 2, BIAS + 63) (HALF, BIAS), (HALF + 2, BIAS + 126) (MOST - 1, BIAS);
+    // Each product has an absent factor.
+    [0, MOST, 0] [0, BIAS, 0] * [MOST, 0, HALF] [BIAS + 9, 0, BIAS]
+        = (MOST, BIAS) (MOST, BIAS), (0, 0) (0, 0);
+    // One cell is absent.
+    [0, MOST, MOST] [0, BIAS - 7, BIAS - 8] * [MOST, HALF, MOST] [BIAS + 9, BIAS, BIAS + 1]
+       
+        = (13835058055282163711, BIAS - 6) (MOST, BIAS - 8),
+        (13835058055282163710, BIAS + 58) (MOST - 1, BIAS + 56);
+    // 2^63 - 1 in whole ones.
+    [HALF, MOST - 3, 0] [BIAS - 1, BIAS - 2, 0] * [HALF, HALF, MOST] [BIAS - 63, BIAS - 63, BIAS]
+        = (MOST - 1, BIAS - 1) (MOST - 3, BIAS - 2), (MOST - 1, BIAS - 1) (MOST - 3, BIAS - 2);
+    // 2^63 in whole ones.
+    [HALF, HALF, HALF] [BIAS - 2, BIAS - 2, BIAS - 1]
+        * [HALF, HALF, HALF] [BIAS - 63, BIAS - 63, BIAS - 63]
+        = (HALF, BIAS) (HALF, BIAS - 2), (HALF, BIAS) (HALF, BIAS - 2);
+};
+
+const NUMBERS: [Numbers; 6] = numbers! {
+    0, 0: ((0, 0), (0, 0)) ((0, 0), (0, 0));
+    0, 5: ((5, 0), (5, 0)) ((5, 0), (5, 0));
+    4611686018427387904, 4611686018427387903:
+        ((9223372036854775807, 0), (9223372036854775807, 0))
+        ((4611686018427387903, 0), (4611686018427387903, 0));
+    4611686018427387904, 4611686018427387904:
+        ((9223372036854775808, 0), (9223372036854775815, 0))
+        ((4611686018427387904, 0), (4611686018427387904, 0));
+    9223372036854775808, 18446744073709551615:
+        ((13835058055282163711, 1), (13835058055282163718, 1))
+        ((9223372036854775808, 0), (9223372036854775815, 0));
+    18446744073709551615, 18446744073709551615:
+        ((18446744073709551615, 1), (9223372036854775811, 2))
+        ((18446744073709551615, 0), (9223372036854775811, 1));
+};
 
 fn plus_of<R: Semiring>(a: u64, b: u64) -> R::Value
     requires a_positive { 1 ≤ a }

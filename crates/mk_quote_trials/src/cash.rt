@@ -21,188 +21,44 @@ struct Edge {
     cash: u64,
 }
 
-const EDGES: [Edge; 20] = [
-    Edge {
-        mantissa: 1,
-        exponent: 0,
-        trades: 0,
-        paid_in: 0,
-        taken_out: 0,
-        points_per_bit: 1,
-        cash: 0,
-    },
-    Edge {
-        mantissa: 1,
-        exponent: 0,
-        trades: 0,
-        paid_in: 65536000,
-        taken_out: 0,
-        points_per_bit: 1000000,
-        cash: 65536000000000,
-    },
-    Edge {
-        mantissa: 1099511627775,
-        exponent: 0,
-        trades: 0,
-        paid_in: 0,
-        taken_out: 0,
-        points_per_bit: 1,
-        cash: 39,
-    },
-    Edge {
-        mantissa: 1099511627776,
-        exponent: 0,
-        trades: 1,
-        paid_in: 0,
-        taken_out: 0,
-        points_per_bit: 1000000,
-        cash: 0,
-    },
-    Edge {
-        mantissa: 1099511627777,
-        exponent: 0,
-        trades: 1,
-        paid_in: 0,
-        taken_out: 0,
-        points_per_bit: 1000000,
-        cash: 0,
-    },
-    Edge {
-        mantissa: 2199023255551,
-        exponent: 0,
-        trades: 1,
-        paid_in: 0,
-        taken_out: 0,
-        points_per_bit: 1,
-        cash: 0,
-    },
-    Edge {
-        mantissa: 2199023255551,
-        exponent: 0,
-        trades: 1,
-        paid_in: 0,
-        taken_out: 0,
-        points_per_bit: 1000000,
-        cash: 999999,
-    },
-    Edge {
-        mantissa: 9223372036854775807,
-        exponent: 0,
-        trades: 1,
-        paid_in: 0,
-        taken_out: 0,
-        points_per_bit: 1000000,
-        cash: 22999999,
-    },
-    Edge {
-        mantissa: 9223372036854775808,
-        exponent: 0,
-        trades: 1,
-        paid_in: 0,
-        taken_out: 0,
-        points_per_bit: 1000000,
-        cash: 23000000,
-    },
-    Edge {
-        mantissa: 9223372036854775809,
-        exponent: 0,
-        trades: 1,
-        paid_in: 0,
-        taken_out: 0,
-        points_per_bit: 1000000,
-        cash: 23000000,
-    },
-    Edge {
-        mantissa: 879609302220,
-        exponent: 0,
-        trades: 1,
-        paid_in: 1,
-        taken_out: 0,
-        points_per_bit: 100,
-        cash: 67,
-    },
-    Edge {
-        mantissa: 1319413953331,
-        exponent: 0,
-        trades: 1,
-        paid_in: 1,
-        taken_out: 0,
-        points_per_bit: 100,
-        cash: 126,
-    },
-    Edge {
-        mantissa: 3,
-        exponent: 0,
-        trades: 0,
-        paid_in: 0,
-        taken_out: 1,
-        points_per_bit: 1,
-        cash: 0,
-    },
-    Edge {
-        mantissa: 3,
-        exponent: 0,
-        trades: 0,
-        paid_in: 0,
-        taken_out: 1,
-        points_per_bit: 1000000,
-        cash: 584962,
-    },
-    Edge {
-        mantissa: 2199023255552,
-        exponent: 0,
-        trades: 1,
-        paid_in: 0,
-        taken_out: 1,
-        points_per_bit: 1000000,
-        cash: 0,
-    },
-    Edge {
-        mantissa: 2199023255551,
-        exponent: 0,
-        trades: 1,
-        paid_in: 1,
-        taken_out: 1,
-        points_per_bit: 1000000,
-        cash: 999999,
-    },
-    Edge {
-        mantissa: 13835058055282163712,
-        exponent: 2621377,
-        trades: 65536,
-        paid_in: 0,
-        taken_out: 0,
-        points_per_bit: 1000000,
-        cash: 584962,
-    },
-    Edge {
-        mantissa: 18446744073709551615,
-        exponent: 2621376,
-        trades: 65536,
-        paid_in: 1,
-        taken_out: 0,
-        points_per_bit: 1000000,
-        cash: 999999,
-    },
-    Edge {
-        mantissa: 9223372036854775808,
-        exponent: 4128705,
-        trades: 65536,
-        paid_in: 65536000,
-        taken_out: 0,
-        points_per_bit: 1000000,
-        cash: 67043328000000,
-    },
-    Edge {
-        mantissa: 13835058055282163712,
-        exponent: 2686913,
-        trades: 65536,
-        paid_in: 0,
-        taken_out: 65536,
-        points_per_bit: 1000000,
-        cash: 584962,
-    },
-];
+/// Rows `mantissa exponent, trades, paid_in taken_out: points_per_bit = cash`.
+macro_rules! edges {
+    ($($mantissa:literal $exponent:literal, $trades:literal, $paid_in:literal $taken_out:literal:
+        $points_per_bit:literal = $cash:literal;)*) => {
+        [$(Edge {
+            mantissa: $mantissa,
+            exponent: $exponent,
+            trades: $trades,
+            paid_in: $paid_in,
+            taken_out: $taken_out,
+            points_per_bit: $points_per_bit,
+            cash: $cash,
+        }),*]
+    };
+}
+
+const EDGES: [Edge; 20] = edges! {
+    1 0, 0, 0 0: 1 = 0;
+    1 0, 0, 65536000 0: 1000000 = 65536000000000;
+    1099511627775 0, 0, 0 0: 1 = 39;
+    1099511627776 0, 1, 0 0: 1000000 = 0;
+    1099511627777 0, 1, 0 0: 1000000 = 0;
+    2199023255551 0, 1, 0 0: 1 = 0;
+    2199023255551 0, 1, 0 0: 1000000 = 999999;
+    9223372036854775807 0, 1, 0 0: 1000000 = 22999999;
+    9223372036854775808 0, 1, 0 0: 1000000 = 23000000;
+    9223372036854775809 0, 1, 0 0: 1000000 = 23000000;
+    879609302220 0, 1, 1 0: 100 = 67;
+    1319413953331 0, 1, 1 0: 100 = 126;
+    3 0, 0, 0 1: 1 = 0;
+    3 0, 0, 0 1: 1000000 = 584962;
+    2199023255552 0, 1, 0 1: 1000000 = 0;
+    2199023255551 0, 1, 1 1: 1000000 = 999999;
+    13835058055282163712 2621377, 65536, 0 0: 1000000 = 584962;
+    18446744073709551615 2621376, 65536, 1 0: 1000000 = 999999;
+    9223372036854775808 4128705, 65536, 65536000 0: 1000000 = 67043328000000;
+    13835058055282163712 2686913, 65536, 0 65536: 1000000 = 584962;
+};
 
 /// The gain `mantissa * 2^exponent`, exactly.
 fn gain(rt: &impl Abort, mantissa: u64, exponent: u64) -> Enclosure
@@ -260,44 +116,26 @@ struct Risk {
     points: u64,
 }
 
-const RISKS: [Risk; 6] = [
-    Risk {
-        variables: 1,
-        least: 500_000,
-        points_per_bit: 100,
-        points: 100,
-    },
-    Risk {
-        variables: 1,
-        least: 333_333,
-        points_per_bit: 100,
-        points: 158,
-    },
-    Risk {
-        variables: 2,
-        least: 60_000_000_000,
-        points_per_bit: 100,
-        points: 405,
-    },
-    Risk {
-        variables: 3,
-        least: 125_000_000_000_000_000,
-        points_per_bit: 100,
-        points: 300,
-    },
-    Risk {
-        variables: 3,
-        least: 1_000_000_000_000_000_000,
-        points_per_bit: 100,
-        points: 0,
-    },
-    Risk {
-        variables: 3,
-        least: 1,
-        points_per_bit: 1_000_000,
-        points: 59_794_705,
-    },
-];
+/// Rows `variables, least: points_per_bit = points`.
+macro_rules! risks {
+    ($($variables:literal, $least:literal: $points_per_bit:literal = $points:literal;)*) => {
+        [$(Risk {
+            variables: $variables,
+            least: $least,
+            points_per_bit: $points_per_bit,
+            points: $points,
+        }),*]
+    };
+}
+
+const RISKS: [Risk; 6] = risks! {
+    1, 500_000: 100 = 100;
+    1, 333_333: 100 = 158;
+    2, 60_000_000_000: 100 = 405;
+    3, 125_000_000_000_000_000: 100 = 300;
+    3, 1_000_000_000_000_000_000: 100 = 0;
+    3, 1: 1_000_000 = 59_794_705;
+};
 
 /// A least weight, exactly.
 fn least(rt: &impl Abort, weight: u64) -> Enclosure

@@ -19,68 +19,31 @@ struct Edge {
     interval: Option<(u32, u32)>,
 }
 
-const EDGES: [Edge; 6] = [
-    Edge {
-        part: 1,
-        whole: 8796093022208,
-        gain: 1,
-        trades: 0,
-        net: 0,
-        share: 1,
-        units: None,
-        interval: None,
-    },
-    Edge {
-        part: 1,
-        whole: 4398046511104,
-        gain: 1,
-        trades: 0,
-        net: 0,
-        share: 1,
-        units: Some(4835703278458516698),
-        interval: Some((1, 1)),
-    },
-    Edge {
-        part: 1,
-        whole: 1073741824,
-        gain: 1,
-        trades: 0,
-        net: 0,
-        share: 7812,
-        units: Some(9222781741044417102),
-        interval: Some((1, 7812)),
-    },
-    Edge {
-        part: 1,
-        whole: 2,
-        gain: 7,
-        trades: 0,
-        net: -3,
-        share: 571429,
-        units: Some(1256585659896),
-        interval: Some((571429, 999999)),
-    },
-    Edge {
-        part: 1,
-        whole: 2,
-        gain: 7,
-        trades: 0,
-        net: -3,
-        share: 571428,
-        units: None,
-        interval: Some((571429, 999999)),
-    },
-    Edge {
-        part: 999999,
-        whole: 999998,
-        gain: 1,
-        trades: 0,
-        net: 1000,
-        share: 1,
-        units: Some(1099510),
-        interval: Some((1, 999999)),
-    },
-];
+/// Rows `part / whole, gain trades net: share => units, interval`.
+macro_rules! edges {
+    ($($part:literal / $whole:literal, $gain:literal $trades:literal $net:literal: $share:literal
+        => $units:expr, $interval:expr;)*) => {
+        [$(Edge {
+            part: $part,
+            whole: $whole,
+            gain: $gain,
+            trades: $trades,
+            net: $net,
+            share: $share,
+            units: $units,
+            interval: $interval,
+        }),*]
+    };
+}
+
+const EDGES: [Edge; 6] = edges! {
+    1 / 8796093022208, 1 0 0: 1 => None, None;
+    1 / 4398046511104, 1 0 0: 1 => Some(4835703278458516698), Some((1, 1));
+    1 / 1073741824, 1 0 0: 7812 => Some(9222781741044417102), Some((1, 7812));
+    1 / 2, 7 0 -3: 571429 => Some(1256585659896), Some((571429, 999999));
+    1 / 2, 7 0 -3: 571428 => None, Some((571429, 999999));
+    999999 / 999998, 1 0 1000: 1 => Some(1099510), Some((1, 999999));
+};
 
 fn exact(rt: &impl Abort, number: u64) -> Enclosure {
     assert!(rt; number >= 1);

@@ -11,9 +11,10 @@ ghost use Rattle.mk_table.specs.Lists.{table_in};
 ghost use Rattle.mk_table_trials.specs.Weather.{of_all, of_rain, of_wind, weather_scopes};
 ghost use Rattle.mk_table_trials.specs.Weather.{AreWeather, HaveRoom};
 
-use crate::fixtures::{only, read};
 use arrayvec::ArrayVec;
 use mk_cell::Cell;
+use mk_file::read_market;
+use mk_fixtures::{A, NOT_A, NOT_B, NOT_C};
 use mk_net::{Event, Network, NoMemory, Pair, Ratio};
 use mk_scope::{CellList, Places, Scope};
 use mk_semiring::{MinProd, Semiring, SumProd};
@@ -24,50 +25,29 @@ use std::process::Abort;
 use std::rc::Rc;
 use std::test::Fail;
 
-const RAIN: Pair = Pair {
-    variable: 0,
-    value: 1,
-};
+const DRY: Pair = A;
 
-const DRY: Pair = Pair {
-    variable: 0,
-    value: 0,
-};
+const RAIN: Pair = NOT_A;
 
-const MIDDLE: Pair = Pair {
-    variable: 1,
-    value: 1,
-};
+const MIDDLE: Pair = NOT_B;
 
 const HIGH: Pair = Pair {
     variable: 1,
     value: 2,
 };
 
-const WARM: Pair = Pair {
-    variable: 2,
-    value: 1,
-};
+const WARM: Pair = NOT_C;
 
 const WEATHER: &str = "points_per_bit = 1
 max_trades = 1
 cliques = [['rain', 'wind'], ['heat']]
 links = [1]
-[[variable]]
-name = 'rain'
-values = ['no', 'yes']
-parents = []
-rows = [[400000, 600000]]
-[[variable]]
-name = 'wind'
-values = ['low', 'mid', 'high']
-parents = ['rain']
-rows = [[100000, 200000, 700000], [300000, 300000, 400000]]
-[[variable]]
-name = 'heat'
-values = ['cold', 'warm']
-parents = []
-rows = [[500000, 500000]]
+variable = [
+{name = 'rain', values = ['no', 'yes'], parents = [], rows = [[400000, 600000]]},
+{name = 'wind', values = ['low', 'mid', 'high'], parents = ['rain'], rows = [
+[100000, 200000, 700000], [300000, 300000, 400000]]},
+{name = 'heat', values = ['cold', 'warm'], parents = [], rows = [[500000, 500000]]},
+]
 ";
 
 /// The number of the table of all three variables.
@@ -93,6 +73,13 @@ struct Weather {
     ghost scopes_are: { scopes.value ≡ weather_scopes },
     ghost rain_is: { rain ≡ record { whole = of_all; part = of_rain } },
     ghost wind_is: { wind ≡ record { whole = of_all; part = of_wind } },
+}
+
+/// The event of one pair.
+fn only(rt: &impl Abort, pair: Pair) -> Event
+    ensures { result ≡ pair ∷ [] }
+{
+    Event::empty().with(pair).expect(rt, "a pair")
 }
 
 /// The scope of all three.
@@ -166,7 +153,7 @@ fn with_scopes(alloc: Global, net: Network, all: Rc<Scope>) -> Result<Weather, N
 }
 
 fn make_weather(rt: &impl Abort, alloc: Global) -> Result<Weather, Fail> {
-    let net = read(alloc, WEATHER)?.net;
+    let net = read_market(alloc, WEATHER.as_bytes())?.net;
     expect_sizes(rt, &net);
     let all = all(alloc, &net)?;
     Ok(with_scopes(alloc, net, all)?)
@@ -306,17 +293,19 @@ fn check_cells<R: Semiring>(rt: &impl Abort, tables: &Tables<R>, cells: &[u64; 3
 
 fn check_table<R: Semiring>(
     rt: &impl Abort,
+    alloc: Global,
     weather: &Weather,
     tables: &mut Tables<R>,
     known: &Known,
-    chosen: &mut CellList,
-)
+) -> Result<(), NoMemory>
     requires { HaveRoom tables.old }
 {
+    let mut chosen = CellList::new(alloc)?;
     check_margin::<R>(rt, weather, tables, &known.winds);
-    check_times::<R>(rt, weather, tables, known.times, chosen);
-    check_totals::<R>(rt, tables, known.winds[1], chosen);
+    check_times::<R>(rt, weather, tables, known.times, &mut chosen);
+    check_totals::<R>(rt, tables, known.winds[1], &mut chosen);
     check_cells::<R>(rt, tables, &known.cells);
+    Ok(())
 }
 
 /// Puts the message, which has the rows of the rain, into the table of all.
@@ -399,28 +388,6 @@ fn traded<R: Semiring>(rt: &impl Abort, alloc: Global, weather: &Weather) -> Res
     Ok(tables)
 }
 
-fn check_product<R: Semiring>(
-    rt: &impl Abort,
-    alloc: Global,
-    weather: &Weather,
-    known: &Known,
-) -> Result<(), Fail> {
-    let mut tables = product::<R>(alloc, weather)?;
-    check_table::<R>(rt, weather, &mut tables, known, &mut CellList::new(alloc)?);
-    Ok(())
-}
-
-fn check_ones<R: Semiring>(
-    rt: &impl Abort,
-    alloc: Global,
-    weather: &Weather,
-    known: &Known,
-) -> Result<(), Fail> {
-    let mut tables = ones_times_ones::<R>(alloc, weather)?;
-    check_table::<R>(rt, weather, &mut tables, known, &mut CellList::new(alloc)?);
-    Ok(())
-}
-
 fn check_put_and_others<R: Semiring>(
     rt: &impl Abort,
     alloc: Global,
@@ -462,8 +429,10 @@ fn check_calls<R: Semiring>(
     weather: &Weather,
     expected: &Expected,
 ) -> Result<(), Fail> {
-    check_product::<R>(rt, alloc, weather, &expected.product)?;
-    check_ones::<R>(rt, alloc, weather, &expected.ones)?;
+    let mut product = product::<R>(alloc, weather)?;
+    check_table::<R>(rt, alloc, weather, &mut product, &expected.product)?;
+    let mut ones = ones_times_ones::<R>(alloc, weather)?;
+    check_table::<R>(rt, alloc, weather, &mut ones, &expected.ones)?;
     check_put_and_others::<R>(rt, alloc, weather, &expected.put)?;
     check_traded::<R>(rt, alloc, weather)
 }

@@ -28,57 +28,47 @@ fn reads(rt: &impl Abort, alloc: Global, text: &str, reply: Reply) -> Result<(),
     Ok(())
 }
 
+fn deposited(
+    rt: &impl Abort,
+    alloc: Global,
+    text: &str,
+    user: Name,
+    bits: u32,
+) -> Result<(), Fail> {
+    both_ways(rt, alloc, text, Reply::Deposited { user, bits, at: 1 })
+}
+
+fn traded(
+    rt: &impl Abort,
+    alloc: Global,
+    text: &str,
+    units: (u64, u64),
+    at: u64,
+) -> Result<(), Fail> {
+    let (hit, miss) = units;
+    both_ways(rt, alloc, text, Reply::Traded { hit, miss, at })
+}
+
 #[test]
 fn reads_and_prints_changes(rt: HostRuntime) -> Result<(), Fail> {
+    let alloc = rt.alloc();
     let user = name(&rt, b"alice");
     let pair = PairText {
         variable: name(&rt, b"coin"),
         value: name(&rt, b"heads"),
     };
-    let at = 1;
-    both_ways(
-        &rt,
-        rt.alloc(),
-        "user alice at 1",
-        Reply::Joined { user, at },
-    )?;
-    let bits = 1000;
-    both_ways(
-        &rt,
-        rt.alloc(),
-        "deposit alice 1000 at 1",
-        Reply::Deposited { user, bits, at },
-    )?;
-    let bits = u32::MAX;
-    let text = "deposit alice 4294967295 at 1";
-    both_ways(&rt, rt.alloc(), text, Reply::Deposited { user, bits, at })?;
-    let bits = 0;
-    let at = 0;
-    both_ways(
-        &rt,
-        rt.alloc(),
-        "withdraw alice 0 at 0",
-        Reply::Withdrawn { user, bits, at },
-    )?;
-    both_ways(
-        &rt,
-        rt.alloc(),
-        "resolve coin=heads at 0",
-        Reply::Resolved { pair, at },
-    )?;
-    let hit = 1_319_413_953_331;
-    let miss = 879_609_302_220;
-    let at = 3;
+    both_ways(&rt, alloc, "user alice at 1", Reply::Joined { user, at: 1 })?;
+    deposited(&rt, alloc, "deposit alice 1000 at 1", user, 1000)?;
+    deposited(&rt, alloc, "deposit alice 4294967295 at 1", user, u32::MAX)?;
+    let (bits, at) = (0, 0);
+    let withdrawn = Reply::Withdrawn { user, bits, at };
+    both_ways(&rt, alloc, "withdraw alice 0 at 0", withdrawn)?;
+    let resolved = Reply::Resolved { pair, at };
+    both_ways(&rt, alloc, "resolve coin=heads at 0", resolved)?;
     let text = "trade 1319413953331 879609302220 at 3";
-    both_ways(&rt, rt.alloc(), text, Reply::Traded { hit, miss, at })?;
+    traded(&rt, alloc, text, (1_319_413_953_331, 879_609_302_220), 3)?;
     let text = "trade 1 9223372036854775807 at 9223372036854775807";
-    let traded = Reply::Traded {
-        hit: 1,
-        miss: MOST,
-        at: MOST,
-    };
-    both_ways(&rt, rt.alloc(), text, traded)?;
-    Ok(())
+    traded(&rt, alloc, text, (1, MOST), MOST)
 }
 
 fn price(rt: &impl Abort, alloc: Global, text: &str, low: u64, high: u64) -> Result<(), Fail> {
@@ -447,31 +437,13 @@ fn reads_and_prints_the_longest_settlement(rt: HostRuntime) -> Result<(), Fail> 
 
 #[test]
 fn reads_and_prints_refusals(rt: HostRuntime) -> Result<(), Fail> {
-    let user = name(&rt, b"zed");
-    let variable = name(&rt, b"coin");
-    let value = name(&rt, b"edge");
-    let unknown = PairText { variable, value };
-    let impossible = PairText { variable, value };
-    let sure = PairText {
-        variable: name(&rt, b"w"),
-        value: name(&rt, b"a"),
-    };
     let limits = Some((250_001, 749_999));
     for (why, text) in [
         (Refusal::Syntax, "refused syntax"),
         (Refusal::Long, "refused long"),
         (Refusal::Settled, "refused settled"),
-        (Refusal::User { user }, "refused user zed"),
-        (Refusal::Exists { user }, "refused exists zed"),
         (Refusal::Users { held: 65_536 }, "refused users 65536"),
-        (Refusal::Unknown { pair: unknown }, "refused name coin=edge"),
-        (Refusal::Twice { variable }, "refused twice coin"),
         (Refusal::Stale { named: 3, now: 4 }, "refused stale 3 4"),
-        (Refusal::Resolved { variable }, "refused resolved coin"),
-        (
-            Refusal::Impossible { pair: impossible },
-            "refused impossible coin=edge",
-        ),
         (Refusal::Wide, "refused wide"),
         (
             Refusal::Range { number: 1_000_000 },
@@ -484,14 +456,8 @@ fn reads_and_prints_refusals(rt: HostRuntime) -> Result<(), Fail> {
             Refusal::Short { bits: MOST },
             "refused short 9223372036854775807",
         ),
-        (Refusal::Unresolved { variable }, "refused open coin"),
-        (Refusal::Sure { pair: sure }, "refused sure w=a"),
         (Refusal::Variables { held: 256 }, "refused variables 256"),
-        (Refusal::Taken { variable }, "refused taken coin"),
-        (Refusal::ValueTwice { value: user }, "refused value zed"),
         (Refusal::Link { number: 0 }, "refused link 0"),
-        (Refusal::Uncovered { variable }, "refused cover coin"),
-        (Refusal::NotRunning { variable }, "refused running coin"),
         (Refusal::RowCount { given: 64 }, "refused rows 64"),
         (
             Refusal::RowWidth { row: 2, given: 16 },
@@ -500,7 +466,40 @@ fn reads_and_prints_refusals(rt: HostRuntime) -> Result<(), Fail> {
         (Refusal::Cells { total: 98_304 }, "refused cells 98304"),
         (Refusal::Memory, "refused memory"),
     ] {
-        both_ways(&rt, rt.alloc(), text, Reply::Refused { why })?;
+        refused(&rt, rt.alloc(), text, why)?;
+    }
+    Ok(())
+}
+
+#[test]
+fn reads_and_prints_refusals_that_name(rt: HostRuntime) -> Result<(), Fail> {
+    let user = name(&rt, b"zed");
+    let variable = name(&rt, b"coin");
+    let value = name(&rt, b"edge");
+    let unknown = PairText { variable, value };
+    let impossible = PairText { variable, value };
+    let sure = PairText {
+        variable: name(&rt, b"w"),
+        value: name(&rt, b"a"),
+    };
+    for (why, text) in [
+        (Refusal::User { user }, "refused user zed"),
+        (Refusal::Exists { user }, "refused exists zed"),
+        (Refusal::Unknown { pair: unknown }, "refused name coin=edge"),
+        (Refusal::Twice { variable }, "refused twice coin"),
+        (Refusal::Resolved { variable }, "refused resolved coin"),
+        (
+            Refusal::Impossible { pair: impossible },
+            "refused impossible coin=edge",
+        ),
+        (Refusal::Unresolved { variable }, "refused open coin"),
+        (Refusal::Sure { pair: sure }, "refused sure w=a"),
+        (Refusal::Taken { variable }, "refused taken coin"),
+        (Refusal::ValueTwice { value: user }, "refused value zed"),
+        (Refusal::Uncovered { variable }, "refused cover coin"),
+        (Refusal::NotRunning { variable }, "refused running coin"),
+    ] {
+        refused(&rt, rt.alloc(), text, why)?;
     }
     Ok(())
 }

@@ -2,10 +2,10 @@
 
 ghost use Rattle.mk_tree.specs.Checked.{IsTreeOf};
 
-use crate::fixtures::{CHAIN, read};
-use crate::flows::{check_minima, check_sums};
+use crate::flows::check_flows;
 use crate::trees::check_copy;
-use mk_file::MarketFile;
+use mk_file::{MarketFile, read_market};
+use mk_fixtures::CHAIN;
 use std::alloc::Global;
 use std::process::Abort;
 use std::test::Fail;
@@ -14,12 +14,11 @@ fn check_all(rt: &impl Abort, alloc: Global, file: &MarketFile) -> Result<(), Fa
     requires { IsTreeOf file.now.net file.now.tree }
 {
     check_copy(rt, alloc, &file.tree)?;
-    check_sums(rt, alloc, file)?;
-    check_minima(rt, alloc, file)
+    check_flows(rt, alloc, file)
 }
 
 #[test]
 fn on_the_chain(rt: HostRuntime) -> Result<(), Fail> {
-    let file = read(rt.alloc(), CHAIN)?;
+    let file = read_market(rt.alloc(), CHAIN.as_bytes())?;
     check_all(&rt, rt.alloc(), &file)
 }

@@ -5,14 +5,14 @@ ghost use Rattle.std.specs.List.{list_all};
 ghost use Rattle.mk_net.specs.Network.{Variable};
 ghost use Rattle.mk_sets.specs.Sets.{is_member};
 ghost use Rattle.mk_net.specs.Trades.{trade_ratio};
-ghost use Rattle.mk_tree.specs.Given.{clique_at, holds_event};
+ghost use Rattle.mk_tree.specs.Given.{clique_at};
 ghost use Rattle.mk_tree.specs.Checked.{IsTreeOf};
 ghost use Rattle.mk_tree.specs.Tests.{holds_family};
 ghost use Rattle.mk_plan.specs.Shapes.{IsShapeFor, IsClique};
 ghost use Rattle.mk_tree_trials.specs.Placed.{HasSome, IsCollected, IsReady, KeepsReady};
 
-use crate::fixtures::check;
 use mk_file::MarketFile;
+use mk_fixtures::{B, C, holds_event};
 use mk_net::{Event, Network, NoMemory, Pair, Question, Ratio};
 use mk_plan::Shape;
 use mk_propagate::Flow;
@@ -23,16 +23,6 @@ use std::alloc::Global;
 use std::process::Abort;
 use std::rc::Rc;
 use std::test::Fail;
-
-const B_UP: Pair = Pair {
-    variable: 1,
-    value: 0,
-};
-
-const C_UP: Pair = Pair {
-    variable: 2,
-    value: 0,
-};
 
 /// Whether a set has each of some variables.
 fn has_all(set: &VarSet, variables: &[u32]) -> bool
@@ -49,15 +39,6 @@ fn holds_family(net: &Network, tree: &Tree, clique: u32, variable: u32) -> bool
 {
     let set = tree.clique(clique);
     set.has(variable) && has_all(&set, net.parents(variable))
-}
-
-/// Whether a clique holds each variable of an event.
-fn holds_event(tree: &Tree, clique: u32, event: &Event) -> bool
-    requires { IsClique tree.now clique }
-    ensures { result ≡ holds_event event.now (clique_at tree.now clique) }
-{
-    let set = tree.clique(clique);
-    event.pairs().iter().all(|pair| set.has(pair.variable))
 }
 
 /// Stops unless the shape has the clique.
@@ -86,6 +67,16 @@ fn place<R: Semiring>(
     assert!(rt; variable < net.variables());
     assert!(rt; holds_family(net, flow.shape().tree(), clique, variable));
     flow.times_rows(clique, net, variable);
+}
+
+/// Stops unless the value is this number, exactly.
+fn check(rt: &impl Abort, held: &Held, n: u64) {
+    let Held::Present(found) = held else {
+        assert!(rt; n == 0);
+        return;
+    };
+    assert!(rt; (found.lo().mantissa(), found.lo().exponent()) == (n, 0));
+    assert!(rt; (found.hi().mantissa(), found.hi().exponent()) == (n, 0));
 }
 
 /// Stops unless this is the belief in an event, read in a clique with the messages into it as they are.
@@ -122,28 +113,28 @@ fn away<R: Semiring>(rt: &impl Abort, flow: &mut Flow<R>, clique: u32)
     flow.distribute(clique);
 }
 
-/// Stops unless these are the beliefs in an event, read in a clique after the messages towards it, and after those away from it.
+/// Stops unless this is the belief in an event, read in a clique after the messages towards it, and after those away from it.
 fn around<R: Semiring<Value = Held>>(
     rt: &impl Abort,
     flow: &mut Flow<R>,
     clique: u32,
     event: &Event,
-    numbers: (u64, u64),
+    number: u64,
 )
     requires { (network : List Variable) × (count : ℕ) × HasSome R.plus_of flow.old network count }
     ensures { (network : List Variable) (count : ℕ) → HasSome R.plus_of flow.old network count → IsReady R.plus_of flow.new network count clique }
 {
     towards(rt, flow, clique);
-    again(rt, flow, clique, event, numbers.0);
+    again(rt, flow, clique, event, number);
     away(rt, flow, clique);
-    again(rt, flow, clique, event, numbers.1);
+    again(rt, flow, clique, event, number);
 }
 
 /// A trade on b.
 fn trade(rt: &impl Abort) -> Ratio
     ensures { trade_ratio result ≡ record { variable = 1; condition = []; factors = 2 ∷ 3 ∷ [] } }
 {
-    let question = Question::make(B_UP, Event::empty()).expect(rt, "a question");
+    let question = Question::make(B, Event::empty()).expect(rt, "a question");
     Ratio::of_question(&question, 2, 2, 3)
 }
 
@@ -173,35 +164,41 @@ fn know<R: Semiring>(rt: &impl Abort, flow: &mut Flow<R>, clique: u32, net: &Net
     flow.restrict(clique, pair);
 }
 
-/// The beliefs that b is up, read in the first clique, are these numbers: with the rows of a and messages of ones, after the
-/// messages away, again with nothing changed, with the rows of b placed there, and with those of c placed in the second clique and
-/// the message from it, and after the messages away.
+/// Beliefs on the chain: that b is up, read in the first clique, with the rows of a, with those of b placed there, and with those of c
+/// placed in the second clique; and in all states, read in the second clique, at first, with the trade placed there, with c known in
+/// the third clique, and with b known in the second.
+struct Beliefs {
+    first: [u64; 3],
+    second: [u64; 4],
+}
+
+/// Stops unless these are the beliefs that b is up. Each is read after the messages away once more; where the rows of b are placed,
+/// no message changes it.
 fn in_first<R: Semiring<Value = Held>>(
     rt: &impl Abort,
     flow: &mut Flow<R>,
     net: &Network,
-    numbers: &[u64; 6],
+    numbers: &[u64; 3],
 )
     requires { HasSome R.plus_of flow.old net.now 0 }
 {
-    let up = Event::empty().with(B_UP).expect(rt, "a pair");
+    let up = Event::empty().with(B).expect(rt, "a pair");
     place(rt, flow, 1, net, 0, 0);
-    around(rt, flow, 1, &up, (numbers[0], numbers[1]));
-    again(rt, flow, 1, &up, numbers[2]);
+    around(rt, flow, 1, &up, numbers[0]);
+    again(rt, flow, 1, &up, numbers[0]);
     place(rt, flow, 1, net, 1, 1);
-    again(rt, flow, 1, &up, numbers[3]);
+    again(rt, flow, 1, &up, numbers[1]);
     place(rt, flow, 2, net, 2, 2);
-    around(rt, flow, 1, &up, (numbers[4], numbers[5]));
+    around(rt, flow, 1, &up, numbers[2]);
     assert!(rt; flow.computed() == 8);
 }
 
-/// The beliefs in all states, read in the second clique, are these numbers: at first, after the messages away, with the trade placed
-/// there, with c known in the third clique and the message from it, after the messages away, and with b known in the second.
+/// Stops unless these are the beliefs in all states.
 fn in_second<R: Semiring<Value = Held>>(
     rt: &impl Abort,
     flow: &mut Flow<R>,
     net: &Network,
-    numbers: &[u64; 6],
+    numbers: &[u64; 4],
 )
     requires { HasSome R.plus_of flow.old net.now 0 }
 {
@@ -209,13 +206,13 @@ fn in_second<R: Semiring<Value = Held>>(
     place(rt, flow, 1, net, 0, 0);
     place(rt, flow, 1, net, 1, 1);
     place(rt, flow, 2, net, 2, 2);
-    around(rt, flow, 2, &all, (numbers[0], numbers[1]));
+    around(rt, flow, 2, &all, numbers[0]);
     multiply(rt, flow, net);
-    again(rt, flow, 2, &all, numbers[2]);
-    know(rt, flow, 3, net, C_UP);
-    around(rt, flow, 2, &all, (numbers[3], numbers[4]));
-    know(rt, flow, 2, net, B_UP);
-    again(rt, flow, 2, &all, numbers[5]);
+    again(rt, flow, 2, &all, numbers[1]);
+    know(rt, flow, 3, net, C);
+    around(rt, flow, 2, &all, numbers[2]);
+    know(rt, flow, 2, net, B);
+    again(rt, flow, 2, &all, numbers[3]);
     assert!(rt; flow.computed() == 8);
 }
 
@@ -234,13 +231,12 @@ fn on_shape<R: Semiring<Value = Held>>(
     alloc: Global,
     net: &Network,
     shape: &Rc<Shape>,
-    first: &[u64; 6],
-    second: &[u64; 6],
+    beliefs: &Beliefs,
 ) -> Result<(), Fail>
     requires { IsShapeFor shape.now.value net.now }
 {
-    in_first::<R>(rt, &mut start(alloc, net, shape)?, net, first);
-    in_second::<R>(rt, &mut start(alloc, net, shape)?, net, second);
+    in_first::<R>(rt, &mut start(alloc, net, shape)?, net, &beliefs.first);
+    in_second::<R>(rt, &mut start(alloc, net, shape)?, net, &beliefs.second);
     Ok(())
 }
 
@@ -253,67 +249,30 @@ fn shape(alloc: Global, file: &MarketFile) -> Result<Rc<Shape>, NoMemory>
     Ok(Rc::new(alloc, shape)?)
 }
 
-fn on_file<R: Semiring<Value = Held>>(
-    rt: &impl Abort,
-    alloc: Global,
-    file: &MarketFile,
-    first: &[u64; 6],
-    second: &[u64; 6],
-) -> Result<(), Fail>
+/// A quadrillion.
+const UNIT: u64 = 1_000_000_000_000_000;
+
+// Over the values of a, in parts per million, and of c: 2 * 500,000 * 2. With b's rows 500,000 * (600,000 + 300,000) * 2, and
+// with c's, which have 1,000,000 in place of the last 2.
+// b is up at 0.45 and down at 0.55. The trade gives 2 * 0.45 + 3 * 0.55; with c up 0.9 * 0.8 + 1.65 * 0.1, of which b up is 0.72.
+const SUMS: Beliefs = Beliefs {
+    first: [2_000_000, 900_000_000_000, 450 * UNIT],
+    second: [1_000 * UNIT, 2_550 * UNIT, 885 * UNIT, 720 * UNIT],
+};
+
+// The least over a and c: 500,000 * 1. With b's rows 500,000 * 300,000, and with c's that times 200,000.
+// The least is 0.5 * 0.4 * 0.1, where b is down and c up, and 3 times that after the trade, as it is with c up; where b is up too
+// it is 0.5 * 0.3 * 0.8 * 2.
+const MINIMA: Beliefs = Beliefs {
+    first: [500_000, 150_000_000_000, 30 * UNIT],
+    second: [20 * UNIT, 60 * UNIT, 60 * UNIT, 240 * UNIT],
+};
+
+/// Sums and minima on the chain.
+pub(crate) fn check_flows(rt: &impl Abort, alloc: Global, file: &MarketFile) -> Result<(), Fail>
     requires { IsTreeOf file.now.net file.now.tree }
 {
     let shape = shape(alloc, file)?;
-    on_shape::<R>(rt, alloc, &file.net, &shape, first, second)
-}
-
-/// Sums on the chain.
-pub(crate) fn check_sums(rt: &impl Abort, alloc: Global, file: &MarketFile) -> Result<(), Fail>
-    requires { IsTreeOf file.now.net file.now.tree }
-{
-    // Over the values of a, in parts per million, and of c: 2 * 500,000 * 2. With b's rows 500,000 * (600,000 + 300,000) * 2, and
-    // with c's, which have 1,000,000 in place of the last 2.
-    let first = [
-        2_000_000,
-        2_000_000,
-        2_000_000,
-        900_000_000_000,
-        450_000_000_000_000_000,
-        450_000_000_000_000_000,
-    ];
-    // b is up at 0.45 and down at 0.55. The trade gives 2 * 0.45 + 3 * 0.55; with c up 0.9 * 0.8 + 1.65 * 0.1, of which b up is 0.72.
-    let second = [
-        1_000_000_000_000_000_000,
-        1_000_000_000_000_000_000,
-        2_550_000_000_000_000_000,
-        885_000_000_000_000_000,
-        885_000_000_000_000_000,
-        720_000_000_000_000_000,
-    ];
-    on_file::<SumProd>(rt, alloc, file, &first, &second)
-}
-
-/// Minima on the chain.
-pub(crate) fn check_minima(rt: &impl Abort, alloc: Global, file: &MarketFile) -> Result<(), Fail>
-    requires { IsTreeOf file.now.net file.now.tree }
-{
-    // The least over a and c: 500,000 * 1. With b's rows 500,000 * 300,000, and with c's that times 200,000.
-    let first = [
-        500_000,
-        500_000,
-        500_000,
-        150_000_000_000,
-        30_000_000_000_000_000,
-        30_000_000_000_000_000,
-    ];
-    // The least is 0.5 * 0.4 * 0.1, where b is down and c up, and 3 times that after the trade, as it is with c up; where b is up too
-    // it is 0.5 * 0.3 * 0.8 * 2.
-    let second = [
-        20_000_000_000_000_000,
-        20_000_000_000_000_000,
-        60_000_000_000_000_000,
-        60_000_000_000_000_000,
-        60_000_000_000_000_000,
-        240_000_000_000_000_000,
-    ];
-    on_file::<MinProd>(rt, alloc, file, &first, &second)
+    on_shape::<SumProd>(rt, alloc, &file.net, &shape, &SUMS)?;
+    on_shape::<MinProd>(rt, alloc, &file.net, &shape, &MINIMA)
 }

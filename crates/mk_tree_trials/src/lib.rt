@@ -5,8 +5,6 @@
 #[cfg(test)]
 mod chain;
 #[cfg(test)]
-mod fixtures;
-#[cfg(test)]
 mod flows;
 #[cfg(test)]
 mod trees;

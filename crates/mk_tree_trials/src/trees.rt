@@ -1,6 +1,10 @@
 //! A tree of a small network, and trees at the limits of cliques.
 
-use crate::fixtures::{expect_links, expect_of_network, read};
+ghost use Rattle.std.specs.Prelude.{ℕ, ◌+◌, ◌<◌, ◌≤◌, length, slice_index};
+ghost use Rattle.mk_tree.specs.Given.{AreOfNetwork};
+
+use mk_file::read_market;
+use mk_fixtures::all_variables;
 use mk_net::{Event, Network, Pair};
 use mk_sets::VarSet;
 use mk_tree::{Tree, TreeFault};
@@ -13,26 +17,18 @@ const WIDE: &str = "points_per_bit = 1
 max_trades = 1
 cliques = [['d'], ['a', 'b', 'c']]
 links = [1]
-[[variable]]
-name = 'a'
-values = ['x0', 'x1', 'x2', 'x3', 'x4', 'x5', 'x6', 'x7', 'x8', 'x9', 'x10', 'x11', 'x12', 'x13', 'x14', 'x15']
-parents = []
-rows = [[999985, 1, 1, 1, 1, 1, 1, 1, 1, 1, 1, 1, 1, 1, 1, 1]]
-[[variable]]
-name = 'b'
-values = ['x0', 'x1', 'x2', 'x3', 'x4', 'x5', 'x6', 'x7', 'x8', 'x9', 'x10', 'x11', 'x12', 'x13', 'x14', 'x15']
-parents = []
-rows = [[999985, 1, 1, 1, 1, 1, 1, 1, 1, 1, 1, 1, 1, 1, 1, 1]]
-[[variable]]
-name = 'c'
-values = ['x0', 'x1', 'x2', 'x3', 'x4', 'x5', 'x6', 'x7', 'x8', 'x9', 'x10', 'x11', 'x12', 'x13', 'x14', 'x15']
-parents = []
-rows = [[999985, 1, 1, 1, 1, 1, 1, 1, 1, 1, 1, 1, 1, 1, 1, 1]]
-[[variable]]
-name = 'd'
-values = ['x0', 'x1']
-parents = []
-rows = [[999999, 1]]
+variable = [
+{name = 'a', values = ['x0', 'x1', 'x2', 'x3', 'x4', 'x5', 'x6', 'x7',
+'x8', 'x9', 'x10', 'x11', 'x12', 'x13', 'x14', 'x15'], parents = [], rows = [
+[999985, 1, 1, 1, 1, 1, 1, 1, 1, 1, 1, 1, 1, 1, 1, 1]]},
+{name = 'b', values = ['x0', 'x1', 'x2', 'x3', 'x4', 'x5', 'x6', 'x7',
+'x8', 'x9', 'x10', 'x11', 'x12', 'x13', 'x14', 'x15'], parents = [], rows = [
+[999985, 1, 1, 1, 1, 1, 1, 1, 1, 1, 1, 1, 1, 1, 1, 1]]},
+{name = 'c', values = ['x0', 'x1', 'x2', 'x3', 'x4', 'x5', 'x6', 'x7',
+'x8', 'x9', 'x10', 'x11', 'x12', 'x13', 'x14', 'x15'], parents = [], rows = [
+[999985, 1, 1, 1, 1, 1, 1, 1, 1, 1, 1, 1, 1, 1, 1, 1]]},
+{name = 'd', values = ['x0', 'x1'], parents = [], rows = [[999999, 1]]},
+]
 ";
 
 fn set(rt: &impl Abort, variables: &[u32]) -> VarSet {
@@ -42,6 +38,26 @@ fn set(rt: &impl Abort, variables: &[u32]) -> VarSet {
         set = set.with(*variable);
     }
     set
+}
+
+/// Stops unless each link leads to an earlier clique.
+fn expect_links(rt: &impl Abort, links: &[u32])
+    ensures first { (k : ℕ) → k < length links.now → 1 ≤ slice_index links.now k }
+    ensures earlier { (k : ℕ) → k < length links.now → slice_index links.now k ≤ k + 1 }
+{
+    for (place, link) in links.iter().enumerate() {
+        assert!(rt; *link >= 1 && *link as usize <= place + 1);
+    }
+}
+
+/// Stops unless the cliques hold variables of the network alone.
+fn expect_of_network(rt: &impl Abort, net: &Network, cliques: &[VarSet])
+    ensures { AreOfNetwork net.now cliques.now }
+{
+    let all = all_variables(net);
+    for clique in cliques {
+        assert!(rt; clique.is_within(&all));
+    }
 }
 
 /// The tree, or its fault.
@@ -134,6 +150,6 @@ fn check_limits(rt: &impl Abort, alloc: Global, net: &Network) -> Result<(), Fai
 #[test]
 fn cliques_at_their_limits(rt: HostRuntime) -> Result<(), Fail> {
     // A clique of 4,096 cells is taken where the file is read.
-    let file = read(rt.alloc(), WIDE)?;
+    let file = read_market(rt.alloc(), WIDE.as_bytes())?;
     check_limits(&rt, rt.alloc(), &file.net)
 }

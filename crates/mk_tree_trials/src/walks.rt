@@ -1,32 +1,12 @@
 //! One coin after a trade that takes heads to 600,000 parts in a million: each call once, by numbers worked out by hand.
 
-use crate::fixtures::read;
+use mk_file::read_market;
+use mk_fixtures::{COIN, HEADS, TAILS};
 use mk_net::{Event, Network, Pair, Question, Ratio};
 use mk_walk::{WalkTrade, all_states, least_gain, state_gain, total};
 use std::alloc::Global;
 use std::process::Abort;
 use std::test::Fail;
-
-const HEADS: Pair = Pair {
-    variable: 0,
-    value: 0,
-};
-
-const TAILS: Pair = Pair {
-    variable: 0,
-    value: 1,
-};
-
-const COIN: &str = "points_per_bit = 1
-max_trades = 1
-cliques = [['coin']]
-links = []
-[[variable]]
-name = 'coin'
-values = ['heads', 'tails']
-parents = []
-rows = [[500000, 500000]]
-";
 
 fn expect_total(
     rt: &impl Abort,
@@ -111,6 +91,6 @@ fn check_network(rt: &impl Abort, alloc: Global, network: &Network) -> Result<()
 
 #[test]
 fn one_trade(rt: HostRuntime) -> Result<(), Fail> {
-    let file = read(rt.alloc(), COIN)?;
+    let file = read_market(rt.alloc(), COIN.as_bytes())?;
     check_network(&rt, rt.alloc(), &file.net)
 }

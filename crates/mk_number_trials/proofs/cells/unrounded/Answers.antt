@@ -1,5 +1,5 @@
 use Rattle.std.proofs.Common.{arith}
-use Rattle.mk_number_trials.proofs.products.unrounded.Goals as goal
+use Rattle.mk_number_trials.proofs.cells.unrounded.Goals as goal
 
 pub returns : goal.returns
 returns g c =

@@ -1,6 +1,6 @@
 use Rattle.std.proofs.Common.{◌≡◌, ℕ, ◌<◌, length, slice_index}
 use Rattle.mk_cell.specs.Products.{IsUnrounded}
-use Rattle.mk_number_trials.proofs.products.unrounded.Given as goal
+use Rattle.mk_number_trials.proofs.cells.unrounded.Given as goal
 
 abbrev pub invariant-loop-c : goal.invariant-loop-c
 invariant-loop-c g l = record {
