@@ -1,50 +1,23 @@
 //! A user of a coin's market: gains and net bits by numbers worked out by hand.
 
-ghost use Rattle.std.specs.Prelude.{◌≡◌, ◌≤◌, [], ◌∷◌, length, slice_index, IfOk, Some};
-ghost use Rattle.mk_net.specs.Network.{sizes};
+ghost use Rattle.std.specs.Prelude.{◌≡◌, ◌≤◌, [], ◌∷◌, IfOk, Some};
 ghost use Rattle.mk_net.specs.Trades.{trade_ratio};
-ghost use Rattle.mk_net.specs.Zeros.{with_zeros};
 ghost use Rattle.mk_engine.specs.Meaning.{ArePairsOf};
 ghost use Rattle.mk_tree.specs.Checked.{IsTreeOf};
 ghost use Rattle.mk_tree.specs.Given.{home};
 ghost use Rattle.mk_tree.specs.Held.{IsHeldAt};
 ghost use Rattle.mk_assets.specs.Holdings.{Owns, opening_holding, with_trade, with_deposit, with_withdrawal};
 
+use crate::coin::{Coin, HEADS, TAILS, make_coin};
 use mk_assets::Assets;
 use mk_enclose::Factor;
 use mk_engine::Engine;
-use mk_file::read_market;
-use mk_fixtures::{COIN, HEADS, TAILS};
 use mk_joint::JointEngine;
-use mk_net::{Event, Network, Pair, Question, Ratio};
+use mk_net::{Event, Pair, Question, Ratio};
 use mk_semiring::MinProd;
-use mk_tree::Tree;
 use std::alloc::Global;
 use std::process::Abort;
 use std::test::Fail;
-
-/// A network of one variable of two values without a share of nothing, and a tree of it.
-#[derive(Drop)]
-pub(crate) struct Coin {
-    pub(crate) net: Network,
-    pub(crate) tree: Tree,
-    ghost one: { length net ≡ 1 },
-    ghost sides: { slice_index (sizes net) 0 ≡ 2 },
-    ghost plain: { with_zeros net ≡ [] },
-}
-
-pub(crate) fn make_coin(rt: &impl Abort, alloc: Global) -> Result<Coin, Fail>
-    ensures tree { IfOk result (λ coin. IsTreeOf coin.net coin.tree) }
-{
-    let file = read_market(alloc, COIN.as_bytes())?;
-    assert!(rt; file.net.variables() == 1);
-    assert!(rt; file.net.values(0) == 2);
-    assert!(rt; file.net.with_zeros().is_empty());
-    Ok(Coin {
-        net: file.net,
-        tree: file.tree,
-    })
-}
 
 /// What a trade of these units gains where the coin shows heads, and where it shows tails.
 const HIT: u64 = 1_319_413_953_331;

@@ -5,6 +5,8 @@
 #[cfg(test)]
 mod assets;
 #[cfg(test)]
+mod coin;
+#[cfg(test)]
 mod parts;
 #[cfg(test)]
 mod runs;

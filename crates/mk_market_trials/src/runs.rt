@@ -4,11 +4,11 @@ ghost use Rattle.std.specs.Prelude.{List};
 ghost use Rattle.mk_net.specs.Network.{Variable};
 ghost use Rattle.mk_tree.specs.Given.{GivenTree};
 
+use crate::coin::COIN;
 use arrayvec::ArrayString;
 use mk_command::{CommandRef, Words, read_command};
 use mk_engine::Engine;
 use mk_file::read_market;
-use mk_fixtures::{COIN, GATE};
 use mk_market::Market;
 use mk_reply::{Reply, print_reply};
 use mk_semiring::{MinProd, SumProd};
@@ -28,6 +28,20 @@ deposit alice 1001 -> refused range 1001
 user bob -> user bob at 3
 price coin=heads -> price 0.5000000000..0.5000000000
 price coin=edge -> refused name coin=edge";
+
+/// A gate with three values, of which one cannot come.
+const GATE: &str = "points_per_bit = 100
+max_trades = 1000
+zeros = true
+cliques = [['gate']]
+links = []
+
+[[variable]]
+name = 'gate'
+values = ['open', 'shut', 'gone']
+parents = []
+rows = [[250000, 750000, 0]]
+";
 
 /// What cannot come is priced, refused and left out of spreads; the bound is asked before and behind.
 const GATE_RUN: &str = "bound -> bound 200..200
@@ -65,10 +79,18 @@ const CAUSES: &str = "points_per_bit = 100
 max_trades = 1000
 cliques = [['burglary', 'earthquake']]
 links = []
-variable = [
-{name = 'burglary', values = ['yes', 'no'], parents = [], rows = [[1000, 999000]]},
-{name = 'earthquake', values = ['yes', 'no'], parents = [], rows = [[2000, 998000]]},
-]
+
+[[variable]]
+name = 'burglary'
+values = ['yes', 'no']
+parents = []
+rows = [[1000, 999000]]
+
+[[variable]]
+name = 'earthquake'
+values = ['yes', 'no']
+parents = []
+rows = [[2000, 998000]]
 ";
 
 /// The alarm and two neighbours are added; prices are those of the network with all five.
