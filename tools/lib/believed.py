@@ -14,7 +14,7 @@ PUBLIC = re.compile(r"^\s*(?:abbrev |unfoldable |opaque )*pub ")
 HEAD = re.compile(rf"^\s*(?:abbrev |unfoldable |opaque )*pub (?:(record|data) )?({NAME})")
 FIELD = re.compile(r"^\s+(?:pub )?([A-Za-z_][A-Za-z0-9_'-]*) :")
 FIXITY = re.compile(r"^infix[lr]? ")
-DECLARED = re.compile(r"^pub (enum|struct|type|trait) (\w+)")
+DECLARED = re.compile(r"^pub (enum|struct|type|trait|const) (\w+)")
 IMPL = re.compile(r"^impl(?:<.*?>)? (\w+) for (\w+)")
 GHOST = re.compile(r"^\s+ghost (\w+)\s*[:=]")
 MEMBER = re.compile(r"\b([A-Z])\.([a-z_]+)\b")
@@ -30,10 +30,21 @@ def without_comments(lines, mark):
     return [re.sub(rf"(^|\s){re.escape(mark)}.*$", "", line) for line in lines]
 
 
+def joined(lines):
+    """The lines, with an import that stands on several in one."""
+    taken = []
+    for line in lines:
+        if taken and re.match(r"^\s*(ghost )?use [^{}]*\{[^}]*$", taken[-1]):
+            taken[-1] += line.strip()
+        else:
+            taken.append(line)
+    return taken
+
+
 def imports_of(lines):
     """Local name -> (crate, module path, name there)."""
     found = {}
-    for line in lines:
+    for line in joined(lines):
         match = USE.match(line)
         if not match:
             continue
@@ -244,12 +255,11 @@ class Sources:
             return None
         parts = path.split(".")
         if parts[0] == "declared":
-            if parts[-1] == "TheVariants":
-                parts = parts[:-1]
-            code = self.code(crate, "/".join(parts[1:-1]))
-            if code is None or parts[-1] not in code.declared:
-                raise Fault(f"{by.path}:{by.line}: `{by.name}` cites `{parts[-1]}`, which crates/{crate}/src/{'/'.join(parts[1:-1])}.rt lacks")
-            return self.visit_declared(code, parts[-1], by)
+            file, declared = self.declared(parts, name)
+            code = self.code(crate, file)
+            if code is None or declared not in code.declared:
+                raise Fault(f"{by.path}:{by.line}: `{by.name}` cites `{declared}`, which crates/{crate}/src/{file}.rt lacks")
+            return self.visit_declared(code, declared, by)
         module = self.module(crate, path)
         if module is None:
             raise Fault(f"{by.path}:{by.line}: `{by.name}` cites Rattle.{crate}.specs.{path}, and there is no such file")
@@ -259,6 +269,14 @@ class Sources:
         if name in module.imports:
             return self.visit_import(by, *module.imports[name])
         raise Fault(f"{by.path}:{by.line}: `{by.name}` cites `{name}`, which {module.shown} lacks")
+
+    @staticmethod
+    def declared(parts, name):
+        """The file of src/ and the name there of what a path below `declared` gives: a type, a form of one, or a constant."""
+        if parts[-1] == "TheConstants":
+            return "/".join(parts[1:-1]), name
+        parts = parts[:-1] if parts[-1] == "TheVariants" else parts
+        return "/".join(parts[1:-1]), parts[-1]
 
     def visit(self, module, name, by):
         item = module.items[name]
@@ -373,8 +391,8 @@ class Sources:
     def owner(self, crate, path, name):
         parts = path.split(".")
         if parts[0] == "declared":
-            parts = parts[:-1] if parts[-1] == "TheVariants" else parts
-            return self.items[(parts[-1], f"crates/{crate}/src/{'/'.join(parts[1:-1])}.rt")]
+            file, declared = self.declared(parts, name)
+            return self.items[(declared, f"crates/{crate}/src/{file}.rt")]
         module = self.module(crate, path)
         name = module.parts.get(name, name)
         if name in module.texts:

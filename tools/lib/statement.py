@@ -11,7 +11,7 @@ name means the definition of its own file; else the one that is given behind the
 SECTIONS = [
     ("The program", ["daggre/src/program.rt", "daggre/src/call.rt", "daggre/src/main.rt"]),
     ("Words and statuses", [
-        "daggre/specs/Words.antt", "daggre/specs/Called.antt", "mk_net/specs/Texts.antt", "mk_io/src/status.rt", "mk_io/specs/Status.antt",
+        "daggre/specs/Words.antt", "daggre/specs/Called.antt", "mk_names/specs/Texts.antt", "mk_io/src/status.rt", "mk_io/specs/Status.antt",
         "mk_session/specs/Outcome.antt", "mk_session/specs/Complete.antt"]),
     ("What is asked of the last history", [
         "daggre/src/ask.rt", "daggre/specs/AskOutcome.antt", "daggre/specs/LastLine.antt", "mk_best/src/found.rt", "mk_best/specs/Chances.antt",
@@ -29,7 +29,7 @@ SECTIONS = [
         "mk_session/specs/Transcript.antt", "mk_session/specs/Passed.antt", "mk_rules/specs/Transcript.antt", "mk_rules/specs/Standings.antt",
         "mk_io/specs/Stream.antt", "mk_io/specs/Cutting.antt"]),
     ("Commands and questions", [
-        "mk_command/src/command.rt", "mk_addition/src/add.rt", "mk_net/src/row.rt", "mk_net/src/words.rt", "mk_net/src/name.rt", "mk_net/specs/Name.antt", "mk_net/specs/Bounds.antt",
+        "mk_command/src/command.rt", "mk_addition/src/add.rt", "mk_net/src/row.rt", "mk_net/src/words.rt", "mk_names/src/name.rt", "mk_names/specs/Name.antt", "mk_net/src/limits.rt", "mk_net/specs/Bounds.antt",
         "mk_net/specs/Network.antt", "mk_net/specs/Zeros.antt", "mk_net/specs/Named.antt", "mk_net/specs/Asked.antt", "mk_net/specs/Events.antt",
         "mk_spread/specs/Spreads.antt"]),
     ("Refusals", ["mk_reply/src/refusal.rt", "mk_net/specs/Firsts.antt", "mk_rules/specs/Refusals.antt", "mk_rules/specs/Additions.antt"]),
@@ -45,7 +45,7 @@ SECTIONS = [
     ("The operator's bound", ["mk_exact/specs/Risk.antt", "mk_exact/specs/Laws.antt", "mk_rules/specs/Laws.antt"]),
     ("Texts", [
         "mk_session/specs/Texts.antt", "mk_command/specs/Commands.antt", "mk_addition/specs/Adds.antt", "mk_reply/specs/Replies.antt", "mk_text/specs/Texts.antt",
-        "mk_text/specs/Joined.antt", "mk_text/specs/Numbers.antt", "mk_file/specs/Faults.antt", "mk_net/src/key.rt", "mk_net/specs/Key.antt"]),
+        "mk_text/specs/Joined.antt", "mk_text/specs/Numbers.antt", "mk_file/specs/Faults.antt", "mk_names/src/key.rt", "mk_names/specs/Key.antt"]),
     ("The market file and its tree", [
         "mk_file/src/fault.rt", "mk_file/specs/File.antt", "mk_file/specs/Walk.antt", "mk_net/specs/Drafts.antt", "mk_file/specs/Counts.antt",
         "mk_net/src/fault.rt", "mk_net/specs/Checked.antt", "mk_file/specs/Cliques.antt", "mk_tree/src/fault.rt", "mk_tree/specs/Given.antt",

@@ -5,7 +5,7 @@ use Rattle.std.proofs.Common.{true, false, refl, ap, ◌⊎◌, inl, inr, arith,
 use Rattle.std.proofs.lemmas.List.{length-take}
 use Rattle.std.proofs.lemmas.Bool.{cases_lt}
 use Rattle.std.proofs.lemmas.Bool.Decides.{nat_tests}
-use Rattle.mk_net.specs.Texts.{same_text}
+use Rattle.mk_names.specs.Texts.{same_text}
 use Rattle.mk_net.specs.declared.words.PairText.{PairText}
 use Rattle.daggre.specs.declared.ask.Ask.{Ask}
 use Rattle.daggre.specs.declared.ask.Ask.TheVariants.{Chance, Best}

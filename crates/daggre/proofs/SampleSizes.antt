@@ -3,7 +3,7 @@ use Rattle.std.proofs.Common.{◌≡◌, ℕ, decimal, zero, suc, ◌+◌, ◌<�
 use Rattle.std.proofs.Common.{Some, None, cond, ◌⊎◌, inl, inr, refl, ap, subst, arith}
 use Rattle.std.specs.List.{find, range_with_len}
 use Rattle.std.proofs.lemmas.Bool.{cases_lt}
-use Rattle.mk_net.specs.Texts.{same_text}
+use Rattle.mk_names.specs.Texts.{same_text}
 use Rattle.daggre.specs.Words.{size_of}
 
 pub none_found : (test : ℕ → Bool) (first count : ℕ) → ((k : ℕ) → first ≤ k → k < first + count

@@ -4,7 +4,7 @@ use Rattle.std.proofs.Common.{ap, ap₂, ◌∙◌, Option, Some, None, option_m
 use Rattle.std.proofs.Common.{position, length, arith, length-drop}
 use Rattle.std.proofs.lemmas.List.{take-map, drop-map, take_all}
 use Rattle.mk_net.proofs.Mapped.{position_of_map}
-use Rattle.mk_net.specs.Texts.{same_text}
+use Rattle.mk_names.specs.Texts.{same_text}
 use Rattle.mk_net.specs.declared.words.PairText.{PairText}
 use Rattle.daggre.specs.declared.ask.Ask.TheVariants.{Chance}
 use Rattle.daggre.specs.Words.{listed, chance_in, chance_around}

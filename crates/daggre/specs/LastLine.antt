@@ -6,7 +6,7 @@ use Rattle.mk_net.specs.declared.words.Pair.{Pair}
 use Rattle.mk_net.specs.declared.words.PairText.{PairText}
 use Rattle.mk_net.specs.Network.{Variable}
 use Rattle.mk_net.specs.Named.{pair_named}
-use Rattle.mk_net.specs.Texts.{same_text}
+use Rattle.mk_names.specs.Texts.{same_text}
 use Rattle.mk_exact.specs.Market.{Market}
 use Rattle.mk_exact.specs.History.{Entry, users}
 use Rattle.mk_text.specs.Joined.{◌&◌, items_text}

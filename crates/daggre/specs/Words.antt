@@ -7,8 +7,8 @@ use Rattle.mk_io.specs.declared.status.Status.{Status}
 use Rattle.mk_io.specs.declared.status.Status.TheVariants.{Done, Usage, MarketRefused, ReadFault}
 use Rattle.mk_io.specs.declared.status.Status.TheVariants.{WriteFault, Memory, TooMany}
 use Rattle.mk_io.specs.declared.status.Status.TheVariants.{DiskFault, StoreRefused}
-use Rattle.mk_net.specs.Name.{is_name}
-use Rattle.mk_net.specs.Texts.{same_text}
+use Rattle.mk_names.specs.Name.{is_name}
+use Rattle.mk_names.specs.Texts.{same_text}
 use Rattle.mk_net.specs.declared.words.PairText.{PairText}
 use Rattle.mk_session.specs.Outcome.{IsFrontOf}
 use Rattle.daggre.specs.declared.ask.Ask.{Ask}

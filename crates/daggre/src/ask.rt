@@ -1,7 +1,8 @@
 //! What can be asked of the last history of a run.
 
 use arrayvec::ArrayVec;
-use mk_net::{Name, PairText};
+use mk_names::Name;
+use mk_net::PairText;
 use std::marker::Model;
 
 /// The most pairs of a list.

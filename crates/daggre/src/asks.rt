@@ -2,13 +2,14 @@
 
 ghost use Rattle.std.specs.Prelude.{◌≡◌, ◌==◌, map, codes, position, Some, None, if◌then◌else◌};
 ghost use Rattle.std.specs.Prelude.{option_map, option_and_then, length, IfSome, ◌<◌};
-ghost use Rattle.mk_net.specs.Name.{is_name};
-ghost use Rattle.mk_net.specs.Texts.{same_text};
+ghost use Rattle.mk_names.specs.Name.{is_name};
+ghost use Rattle.mk_names.specs.Texts.{same_text};
 ghost use Rattle.daggre.specs.Words.{pair_of, listed, ask_of, chance_in, best_in, expect_in};
 ghost use Rattle.daggre.specs.Words.{chance_around};
 
 use crate::ask::{Ask, MAX_LISTED, PairList};
-use mk_net::{Name, PairText};
+use mk_names::Name;
+use mk_net::PairText;
 
 /// What a word asks, by the words behind the name of the market.
 #[tactic(auto, unfolding(crate::specs::Words::ask_of))]

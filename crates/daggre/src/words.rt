@@ -2,7 +2,7 @@
 
 ghost use Rattle.std.specs.Prelude.{◌≡◌, ◌≤◌, [], ◌∷◌, map, codes, decimal, IfSome};
 ghost use Rattle.std.specs.Prelude.{option_map, length};
-ghost use Rattle.mk_net.specs.Texts.{same_text};
+ghost use Rattle.mk_names.specs.Texts.{same_text};
 ghost use Rattle.daggre.specs.Words.{max_sample, asked_of, kept_in, audited_in, size_of};
 ghost use Rattle.daggre.specs.inner.Asking.{asked_as, IsSized};
 

@@ -5,7 +5,7 @@ use Rattle.std.proofs.Common.{Bor, refl, sym, ap, ◌∙◌, arith, append_assoc
 use Rattle.std.proofs.lemmas.Option.{same_Some}
 use Rattle.std.proofs.lemmas.Bool.{leb-true, le-leb}
 use Rattle.std.proofs.lemmas.List.Elements.{All-nil}
-use Rattle.mk_net.specs.Name.{IsName}
+use Rattle.mk_names.specs.Name.{IsName}
 use Rattle.mk_net.specs.declared.words.Syntax.{Syntax}
 use Rattle.mk_text.specs.Numbers.{IsShort}
 use Rattle.mk_text.specs.Words.{after, EndsWord}

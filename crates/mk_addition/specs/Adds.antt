@@ -1,7 +1,7 @@
 -- Questions that are added to a market, and how they are written.
 use Rattle.std.specs.Prelude.{ℕ, ◌≤◌, List, [], ◌∷◌, length, All, codes, decimal}
 use Rattle.mk_net.specs.Bounds.{max_values, max_parents}
-use Rattle.mk_net.specs.Name.{IsName}
+use Rattle.mk_names.specs.Name.{IsName}
 use Rattle.mk_text.specs.Joined.{◌&◌, items_text}
 use Rattle.mk_text.specs.Numbers.{IsShort}
 use Rattle.mk_addition.specs.declared.add.AddText.{AddText}

@@ -1,7 +1,8 @@
 //! The words of an added question.
 
 use arrayvec::ArrayVec;
-use mk_net::{Name, Row};
+use mk_names::Name;
+use mk_net::Row;
 
 /// `add V=v,w.. | P.. : ROWS in C.. to K`, perhaps without parents: a question V, its values and
 /// parents, a row of shares in parts per million for each list of the parents' values, the names of

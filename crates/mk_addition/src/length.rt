@@ -6,7 +6,7 @@ ghost use Rattle.mk_addition.specs.Adds.{add_text, parents_text};
 use crate::add::AddText;
 use crate::list::list_length;
 use crate::writable::Writable;
-use mk_net::Name;
+use mk_names::Name;
 
 /// How many bytes the text of an added question has.
 pub fn text_length(add: &AddText) -> u32

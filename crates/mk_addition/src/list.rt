@@ -13,7 +13,8 @@ ghost use Rattle.mk_addition.specs.Reading.{more, read_list};
 use crate::row::read_row;
 use crate::writable::Writable;
 use arrayvec::{ArrayString, ArrayVec};
-use mk_net::{Name, Row};
+use mk_names::Name;
+use mk_net::Row;
 use mk_text::Reader;
 
 /// A thing of which a list may be read.

@@ -9,7 +9,7 @@ use crate::add::AddText;
 use crate::list::put_list;
 use crate::writable::Writable;
 use arrayvec::ArrayString;
-use mk_net::Name;
+use mk_names::Name;
 
 /// Puts the text of an added question into `out`, in place of what it held. The text must have at
 /// most 1,024 bytes, which `text_length` tells.

@@ -11,7 +11,8 @@ ghost use Rattle.mk_addition.specs.declared.add.AddText.{AddText};
 use crate::add::AddText;
 use crate::list::read_list;
 use arrayvec::ArrayVec;
-use mk_net::{Name, Row, Syntax};
+use mk_names::Name;
+use mk_net::{Row, Syntax};
 use mk_text::{Item, Reader};
 
 /// The added question of which these bytes are the text, with its words in `words`, where they are

@@ -2,7 +2,8 @@
 
 use crate::{AddText, print_add, read_add, text_length};
 use arrayvec::{ArrayString, ArrayVec};
-use mk_net::{Name, Row, Syntax};
+use mk_names::Name;
+use mk_net::{Row, Syntax};
 use std::process::Abort;
 
 /// A line and the words that it says.

@@ -6,7 +6,8 @@ ghost use Rattle.arrayvec.specs.ArrayString.{array_string_len};
 use crate::list::{list_length, put_list};
 use arrayvec::ArrayString;
 use itoa::Buffer;
-use mk_net::{Name, Row};
+use mk_names::Name;
+use mk_net::Row;
 use std::str;
 
 /// A thing of which a list may be written.

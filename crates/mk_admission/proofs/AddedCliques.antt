@@ -15,8 +15,8 @@ use Rattle.std.proofs.lemmas.List.Sums.{sum_by-cons}
 use Rattle.mk_net.specs.Bounds.{max_clique_cells}
 use Rattle.mk_net.specs.Network.{Variable, IsNetwork, sizes, choices}
 use Rattle.mk_sets.specs.Sets.{VarSet, is_member, no_variables}
-use Rattle.mk_net.specs.Texts.{same_text}
-use Rattle.mk_net.specs.inner.TextLaws.{equal_of_same_text}
+use Rattle.mk_names.specs.Texts.{same_text}
+use Rattle.mk_names.specs.inner.TextLaws.{equal_of_same_text}
 use Rattle.mk_net.proofs.Networks.{two_values}
 use Rattle.mk_net.proofs.Behind.{choices_same, size_before, size_last, filter_below}
 use Rattle.mk_states.specs.States.{numbers_below}

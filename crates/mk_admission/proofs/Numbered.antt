@@ -11,7 +11,7 @@ use Rattle.std.proofs.lemmas.Bool.{eqb-true, eq-eqb}
 use Rattle.mk_net.specs.Network.{Variable}
 use Rattle.mk_net.specs.Named.{variable_named}
 use Rattle.mk_sets.specs.Sets.{VarSet, is_member}
-use Rattle.mk_net.specs.Texts.{same_text}
+use Rattle.mk_names.specs.Texts.{same_text}
 use Rattle.mk_states.proofs.Sums.{each_always}
 use Rattle.mk_tree.specs.Tests.{members}
 use Rattle.mk_rules.specs.Additions.{number_named, numbers_named, holds_named}

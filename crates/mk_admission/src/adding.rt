@@ -2,7 +2,8 @@
 
 ghost use Rattle.std.specs.Prelude.{◌≡◌, ℕ, ◌<◌, ◌==◌, true, None, length, All};
 ghost use Rattle.std.specs.List.{list_any};
-ghost use Rattle.mk_sets.specs.Sets.{max_variables, is_member};
+ghost use Rattle.mk_sets.specs.Sets.{is_member};
+ghost use Rattle.mk_net.specs.Bounds.{max_variables};
 ghost use Rattle.mk_tree.specs.Tests.{members};
 ghost use Rattle.mk_rules.specs.Additions as rules;
 ghost use Rattle.mk_history.specs.Entries.{addition_of};
@@ -10,7 +11,8 @@ ghost use Rattle.mk_history.specs.Entries.{addition_of};
 use arrayvec::ArrayVec;
 use mk_addition::AddText;
 use mk_history::AddedQuestion;
-use mk_net::{Addition, Name, Network};
+use mk_names::Name;
+use mk_net::{Addition, Network};
 use mk_sets::VarSet;
 
 /// What a question adds to a network, where no variable has its name and its clique holds it.

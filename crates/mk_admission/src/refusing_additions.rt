@@ -6,7 +6,7 @@ ghost use Rattle.mk_net.specs.Bounds.{max_values, max_clique_cells};
 ghost use Rattle.mk_net.specs.Firsts.{first_of};
 ghost use Rattle.mk_net.specs.Named.{variable_named};
 ghost use Rattle.mk_net.specs.Network.{sizes, choices};
-ghost use Rattle.mk_net.specs.Texts.{same_text};
+ghost use Rattle.mk_names.specs.Texts.{same_text};
 ghost use Rattle.mk_tree.specs.Checked.{IsTreeOf};
 ghost use Rattle.mk_tree.specs.Tests.{members};
 ghost use Rattle.mk_file.specs.MarketOf.{market_of};
@@ -20,20 +20,13 @@ use crate::adding::shared;
 use crate::refusing_rows::has_rows;
 use mk_addition::AddText;
 use mk_file::MarketFile;
-use mk_net::{Name, Network};
+use mk_names::Name;
+use mk_net::Network;
+use mk_net::limits::{MAX_CELLS, MAX_CLIQUE_CELLS, MAX_VARIABLES};
 use mk_record::{Journal, not_settled, refuse_if};
 use mk_reply::Refusal;
 use mk_sets::VarSet;
 use mk_tree::clique_cells;
-
-/// The most variables of a market.
-const MAX_VARIABLES: u32 = 256;
-
-/// The most cells of a clique.
-const MAX_CLIQUE_CELLS: u32 = 4_096;
-
-/// The most cells of all cliques.
-const MAX_CELLS: u32 = 32_768;
 
 /// What `add` is refused for: a settlement; as many variables as a market holds; a name that is
 /// taken, a value that occurs twice, a name that nothing has, a name that occurs twice; a clique

@@ -15,8 +15,9 @@ ghost use Rattle.mk_record.specs.Refused.{refusal_in};
 use crate::adding::numbers;
 use mk_addition::AddText;
 use mk_file::MarketFile;
+use mk_net::limits::{MAX_SHARE, MILLION};
 use mk_net::{Network, Row};
-use mk_record::{MAX_SHARE, MILLION, all_in_range, is_million, refuse_if};
+use mk_record::{all_in_range, is_million, refuse_if};
 use mk_reply::Refusal;
 
 /// There is to be a row for each list of the parents' values, with a number for each value. Each

@@ -21,7 +21,7 @@ ghost use Rattle.mk_beliefs.specs.Meanings.{gains_of};
 ghost use Rattle.mk_answers.specs.Telling.{CanTellPrices, CanTellPosition};
 ghost use Rattle.mk_answers.specs.inner.Found.{AreSidesIn, HasSides, CanFindSure};
 
-use crate::found::{ROOT, enclosure_of};
+use crate::found::enclosure_of;
 use crate::spread::question_at;
 use arrayvec::ArrayVec;
 use mk_assets::Assets;
@@ -31,6 +31,7 @@ use mk_judge::PriceBounds;
 use mk_net::{Event, Network, Question};
 use mk_quote::SpreadQuestion;
 use mk_semiring::{Held, MinProd, SumProd};
+use mk_tree::ROOT;
 
 /// The bounds of a question's price: those that `price_of` makes an interval of. None where the
 /// condition cannot come. It asks the same beliefs in the same order, and leaves what the engine

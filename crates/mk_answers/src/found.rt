@@ -5,9 +5,6 @@ ghost use Rattle.mk_answers.specs.inner.Found.{IsThere};
 use mk_enclose::{Enclosure, Factor};
 use mk_semiring::Held;
 
-/// The clique in which beliefs in no pair at all are asked.
-pub const ROOT: u32 = 1;
-
 /// The enclosure of a belief in what is possible.
 pub fn enclosure_of(belief: &Held) -> Enclosure
     requires { IsThere belief.now }

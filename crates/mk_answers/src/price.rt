@@ -17,11 +17,9 @@ ghost use Rattle.mk_semiring.specs.Held.{HasHeldGrade};
 use crate::found::enclosure_of;
 use mk_enclose::Enclosure;
 use mk_engine::{Engine, belief_of_others};
+use mk_net::limits::PRICE_UNIT;
 use mk_net::{Network, Question};
 use mk_semiring::{Held, SumProd};
-
-/// The units of 10^-10 in one.
-const UNITS: u64 = 10_000_000_000;
 
 /// Bounds on the price of a question, in units of 10^-10: at most two apart. They are the floor and
 /// the ceiling in the small case, and else but for a price that is a part in 2^42 from a unit, or
@@ -54,7 +52,7 @@ pub fn price_of<P: Engine<SumProd>>(
         return price_of_sides(&part, &rest);
     }
     let whole = prices.belief(at, &condition);
-    Some(Enclosure::parts(&enclosure_of(&part), &enclosure_of(&whole), UNITS))
+    Some(Enclosure::parts(&enclosure_of(&part), &enclosure_of(&whole), PRICE_UNIT))
 }
 
 /// The price of a question from the beliefs in its target and in its other values.
@@ -69,9 +67,9 @@ fn price_of_sides(part: &Held, rest: &Held) -> Option<(u64, u64)>
     match (part, rest) {
         (Held::Absent, Held::Absent) => None,
         (Held::Absent, Held::Present(_)) => Some((0, 0)),
-        (Held::Present(_), Held::Absent) => Some((UNITS, UNITS)),
+        (Held::Present(_), Held::Absent) => Some((PRICE_UNIT, PRICE_UNIT)),
         (Held::Present(part), Held::Present(rest)) => {
-            Some(Enclosure::parts(part, &part.add(rest), UNITS))
+            Some(Enclosure::parts(part, &part.add(rest), PRICE_UNIT))
         }
     }
 }

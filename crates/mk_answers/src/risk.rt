@@ -10,11 +10,12 @@ ghost use Rattle.mk_beliefs.specs.Meanings.{rows_of};
 ghost use Rattle.mk_answers.specs.Open.{IsOpen};
 ghost use Rattle.mk_answers.specs.Calls.{CanFindBound};
 
-use crate::found::{ROOT, enclosure_of};
+use crate::found::enclosure_of;
 use mk_cash::bound;
 use mk_engine::Engine;
 use mk_net::{Event, Network};
 use mk_semiring::MinProd;
+use mk_tree::ROOT;
 
 /// Bounds on the most that the operator can lose, in points: the cash of one over the least initial probability of a possible
 /// state, by an engine that has the initial weights. It leaves what the engine stands for as it was.

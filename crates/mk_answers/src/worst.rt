@@ -17,12 +17,13 @@ ghost use Rattle.mk_answers.specs.Open.{IsOpen, IsFactorFor, holding_of};
 ghost use Rattle.mk_answers.specs.Calls.{CanFindWorst};
 ghost use Rattle.mk_answers.specs.Evidence.{IsLeastFactorOf};
 
-use crate::found::{ROOT, factor_of};
+use crate::found::factor_of;
 use mk_assets::Assets;
 use mk_enclose::Factor;
 use mk_engine::Engine;
 use mk_net::Event;
 use mk_semiring::MinProd;
+use mk_tree::ROOT;
 
 /// The least factor of a user over all possible states: of one who holds no trade the gain is one.
 /// It leaves what the assets stand for as it was.

@@ -17,7 +17,8 @@ ghost use Rattle.mk_asking.specs.Stopped.{IsAskedBy, IsConditionBy, IsDecidedBy,
 
 use mk_answers::first_impossible;
 use mk_engine::Engine;
-use mk_net::{Event, Name, Network, Pair, PairText, QuestionText};
+use mk_names::Name;
+use mk_net::{Event, Network, Pair, PairText, QuestionText};
 use mk_quote::SpreadQuestion;
 use mk_record::{Request, SpreadRequest};
 use mk_reply::{Intervals, Refusal};

@@ -13,17 +13,18 @@ ghost use Rattle.mk_best.specs.inner.Engines.{learned};
 ghost use Rattle.mk_best.specs.inner.Picks.{CanSearchBoth, AreEnds, HasEnds, IsCertificate};
 ghost use Rattle.mk_best.specs.inner.Picks.{IsBestLeft};
 
-use crate::chances::{ROOT, UNITS, chance_left};
+use crate::chances::chance_left;
 use crate::found::{Best, Chance, StateList};
 use crate::history::engine_after;
 use crate::known::know_all;
 use crate::search::best_pairs;
 use mk_enclose::Enclosure;
 use mk_engine::Engine;
+use mk_net::limits::PRICE_UNIT;
 use mk_net::{Event, Network, NoMemory, Pair};
 use mk_record::Journal;
 use mk_semiring::{Held, MaxProd, Semiring, SumProd};
-use mk_tree::Tree;
+use mk_tree::{ROOT, Tree};
 use mk_tree_engine::TreeEngine;
 use std::alloc::Global;
 
@@ -136,7 +137,7 @@ fn certificate(own: &Held, top: &Held, whole: &Enclosure) -> (Enclosure, u64)
     let Held::Present(top) = top else {
         unreachable!()
     };
-    let Some(units) = top.hi().div_ceil(UNITS, &whole.lo(), 1) else {
+    let Some(units) = top.hi().div_ceil(PRICE_UNIT, &whole.lo(), 1) else {
         unreachable!()
     };
     (Enclosure::between(own.lo(), top.hi()), units)

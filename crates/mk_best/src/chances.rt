@@ -18,18 +18,13 @@ use crate::known::know_all;
 use crate::sure::are_sure;
 use mk_enclose::Enclosure;
 use mk_engine::Engine;
+use mk_net::limits::PRICE_UNIT;
 use mk_net::{Event, Network, NoMemory, Pair};
 use mk_record::Journal;
 use mk_semiring::{Held, SumProd};
-use mk_tree::Tree;
+use mk_tree::{ROOT, Tree};
 use mk_tree_engine::TreeEngine;
 use std::alloc::Global;
-
-/// The units of 10^-10 in one.
-pub(crate) const UNITS: u64 = 10_000_000_000;
-
-/// The clique in which beliefs in no pair at all are asked.
-pub(crate) const ROOT: u32 = 1;
 
 /// The chance that a possible state that meets `given` meets `want` too, after a history, in units
 /// of 10^-10. The pairs need no
@@ -90,8 +85,8 @@ pub(crate) fn chance_left<E: Engine<SumProd>>(
     };
     if are_sure(engine, net, tree, want) {
         return Chance::Price {
-            low: UNITS,
-            high: UNITS,
+            low: PRICE_UNIT,
+            high: PRICE_UNIT,
         };
     }
     know_all::<SumProd, E>(engine, tree, want);
@@ -110,6 +105,6 @@ fn share_of(part: &Held, whole: &Enclosure) -> (u64, u64)
 {
     match part {
         Held::Absent => (0, 0),
-        Held::Present(part) => Enclosure::parts(part, whole, UNITS),
+        Held::Present(part) => Enclosure::parts(part, whole, PRICE_UNIT),
     }
 }

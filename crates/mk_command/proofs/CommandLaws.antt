@@ -7,7 +7,7 @@ use Rattle.mk_addition.specs.Adds.{IsAddText, addition_text, add_text}
 use Rattle.mk_addition.specs.declared.add.AddText.{AddText}
 use Rattle.mk_addition.proofs.AddLaws.{addition_reads}
 use Rattle.mk_net.specs.declared.words.PairText.{PairText}
-use Rattle.mk_net.specs.Name.{IsName}
+use Rattle.mk_names.specs.Name.{IsName}
 use Rattle.mk_net.specs.declared.words.QuestionText.{QuestionText}
 use Rattle.mk_net.specs.declared.words.Syntax.{Syntax}
 use Rattle.mk_text.specs.Numbers.{IsShort}

@@ -1,7 +1,7 @@
 -- Commands, and how they are written.
 use Rattle.std.specs.Prelude.{ℕ, ◌≤◌, List, length, codes, decimal, Option, IfSome, ⊤}
 use Rattle.mk_addition.specs.Adds.{IsAddText, add_text}
-use Rattle.mk_net.specs.Name.{IsName}
+use Rattle.mk_names.specs.Name.{IsName}
 use Rattle.mk_text.specs.Joined.{◌&◌, perhaps_text, spaced, AreSeveral}
 use Rattle.mk_text.specs.Numbers.{IsShort}
 use Rattle.mk_text.specs.Texts.{IsPairText, pair_text, IsCondition, condition_text, IsQuestionText, question_text}

@@ -6,7 +6,8 @@ ghost use Rattle.mk_command.specs.inner.Kinds.{IsOfValues, IsSpread};
 
 use arrayvec::ArrayVec;
 use mk_addition::AddText;
-use mk_net::{Name, PairText, QuestionText};
+use mk_names::Name;
+use mk_net::{PairText, QuestionText};
 
 /// A line of the command stream.
 #[derive(Debug, Drop, PartialEq, Eq)]

@@ -11,7 +11,8 @@ ghost use Rattle.mk_command.specs.inner.Kinds.{IsOfValues};
 use crate::command::Command;
 use arrayvec::ArrayString;
 use mk_addition::print_add;
-use mk_net::{Name, PairText, QuestionText};
+use mk_names::Name;
+use mk_net::{PairText, QuestionText};
 use mk_text::{put_condition, put_name, put_numbers, put_pair, put_question, put_short};
 
 /// Puts the text of a command into `out`, in place of what it held. Its numbers must be below 10^9,

@@ -3,8 +3,8 @@ use Rattle.std.specs.Prelude.{ℕ, ◌+◌, ◌-◌, ◌*◌, max, Bool, true, f
 use Rattle.std.specs.Prelude.{length, sum_by, All}
 use Rattle.mk_net.specs.declared.words.Pair.{Pair}
 use Rattle.mk_net.specs.Asked.{TradeRatio}
-use Rattle.mk_net.specs.Bounds.{max_cliques, max_clique_cells, max_cells, max_market_trades}
-use Rattle.mk_sets.specs.Sets.{max_variables}
+use Rattle.mk_net.specs.Bounds.{max_variables, max_cliques, max_clique_cells, max_cells}
+use Rattle.mk_net.specs.Bounds.{max_market_trades}
 use Rattle.mk_net.specs.Network.{Variable, sizes}
 use Rattle.mk_states.specs.States.{states, plus_over, product_by}
 use Rattle.mk_states.specs.InitialWeight.{value_at}

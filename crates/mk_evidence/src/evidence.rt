@@ -21,7 +21,8 @@ use mk_enclose::{Enclosure, Factor};
 use mk_engine::{Engine, TreeGraded};
 use mk_judge::PriceBounds;
 use mk_market::Market;
-use mk_net::{Name, PairText, QuestionText};
+use mk_names::Name;
+use mk_net::{PairText, QuestionText};
 use mk_record::{
     not_settled, refuse_bounds, refuse_price, refuse_prices, refuse_transfer, refuse_worst,
 };

@@ -9,8 +9,8 @@ use Rattle.std.proofs.lemmas.List.Elements.{recursion_from_All}
 use Rattle.mk_net.specs.declared.words.Pair.{Pair}
 use Rattle.mk_net.specs.Network.{Variable, sizes, IsNetwork}
 use Rattle.mk_net.specs.Events.{speaks_of}
-use Rattle.mk_net.specs.Texts.{same_text}
-use Rattle.mk_net.specs.inner.TextLaws.{equal_of_same_text, same_text_of_equal}
+use Rattle.mk_names.specs.Texts.{same_text}
+use Rattle.mk_names.specs.inner.TextLaws.{equal_of_same_text, same_text_of_equal}
 use Rattle.mk_states.specs.States.{states, numbers_below, plus_over, IsState}
 use Rattle.mk_states.specs.InitialWeight.{all_states, can_come, initial_weight, value_at}
 use Rattle.mk_states.specs.Events.{has, holds, always}

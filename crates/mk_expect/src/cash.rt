@@ -18,12 +18,9 @@ use mk_engine::Engine;
 use mk_net::{Event, Network, NoMemory};
 use mk_record::Journal;
 use mk_semiring::{Held, SumProd};
-use mk_tree::Tree;
+use mk_tree::{ROOT, Tree};
 use mk_tree_engine::TreeEngine;
 use std::alloc::Global;
-
-/// The clique in which the belief in no pair at all is asked.
-const ROOT: u32 = 1;
 
 /// Bounds on the points that a user may expect to have after a history, at so many points a bit: by
 /// the weights of the possible states, what was deposited less what was withdrawn, and what the

@@ -9,6 +9,7 @@ ghost use Rattle.mk_expect.specs.inner.Added.{AddsEntry, AddsEntries};
 ghost use Rattle.mk_expect.specs.inner.Shares.{HasWhole, CanAdd, CanAddAll};
 ghost use Rattle.mk_expect.specs.inner.Tallies.{AddsUp};
 
+use crate::points::PARTS;
 use crate::tally::{Tally, no_tally, sum_of};
 use crate::trades::trade_tally;
 use mk_enclose::Enclosure;
@@ -17,9 +18,6 @@ use mk_history::Entry;
 use mk_record::Journal;
 use mk_semiring::SumProd;
 use mk_tree::Tree;
-
-/// The parts of a tally in one bit.
-const PARTS: u128 = 1 << 54;
 
 /// The tally of a user's entries, asked of an engine that has the weights after all of them. It
 /// leaves what the engine stands for as it was.

@@ -7,7 +7,7 @@ ghost use Rattle.mk_expect.specs.inner.Tallies.{IsWithin, ArePoints};
 use crate::tally::Tally;
 
 /// The parts of a tally in one bit.
-const PARTS: u128 = 1 << 54;
+pub(crate) const PARTS: u128 = 1 << 54;
 
 /// Whole points on either side of what is gained less what is owed, at so many points a bit: as
 /// many as it is at least, and as many as it is at most.

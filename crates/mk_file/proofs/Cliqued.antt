@@ -6,14 +6,14 @@ use Rattle.std.proofs.lemmas.Bool.{ltb-true, eqb-true, eq-eqb, and_parts, and_ri
 use Rattle.std.proofs.lemmas.List.{map-append, take_more, take-append-drop}
 use Rattle.std.proofs.lemmas.List.Sums.{passes_at_first}
 use Rattle.std.proofs.lemmas.List.Folds.{list_all-append}
-use Rattle.mk_net.specs.Name.{IsName}
+use Rattle.mk_names.specs.Name.{IsName}
 use Rattle.mk_net.specs.Named.{nobody}
 use Rattle.mk_net.specs.Network.{Variable}
 use Rattle.mk_sets.specs.Sets.{VarSet, is_member, no_variables, with_member, set_of}
-use Rattle.mk_net.specs.Texts.{same_text}
+use Rattle.mk_names.specs.Texts.{same_text}
 use Rattle.mk_net.specs.Checked.{has_double}
 use Rattle.mk_sets.proofs.Members.{set_of_none, set_of_more}
-use Rattle.mk_net.proofs.SameText.{equal_of_same_text, same_text_of_equal}
+use Rattle.mk_names.proofs.SameText.{equal_of_same_text, same_text_of_equal}
 use Rattle.mk_file.specs.inner.Known.{number_in, is_known_in, is_bad_clique, set_in, IsSetOf}
 
 same_answer : (p q : Bool) → (p ≡ true → q ≡ true) → (q ≡ true → p ≡ true) → p ≡ q

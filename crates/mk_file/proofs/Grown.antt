@@ -5,17 +5,17 @@ use Rattle.std.specs.Prelude.{nat_abs}
 use Rattle.std.specs.List.{list_all, position_or_len}
 use Rattle.std.proofs.lemmas.Bool.{eqb-true, leb-true, not-false, and_parts}
 use Rattle.std.proofs.lemmas.List.{length-map}
-use Rattle.mk_net.specs.Name.{IsName}
-use Rattle.mk_net.specs.Texts.{same_text}
+use Rattle.mk_names.specs.Name.{IsName}
+use Rattle.mk_names.specs.Texts.{same_text}
 use Rattle.mk_net.specs.Network.{Variable}
 use Rattle.mk_net.specs.Drafts.{DraftOfVariable}
 use Rattle.mk_sets.specs.Sets.{VarSet, set_of}
 use Rattle.mk_net.specs.Firsts.{fault_if, or_else, first_in}
 use Rattle.mk_net.specs.Checked.{is_within, number_of, has_double, checked_variable, checked_network, count_at, count_fault, later_fault as draft_later, first_fault}
-use Rattle.mk_net.specs.declared.key.Key.{Key}
+use Rattle.mk_names.specs.declared.key.Key.{Key}
 use Rattle.mk_net.specs.declared.fault.NetFault.{NetFault}
 use Rattle.mk_net.specs.declared.fault.NetFault.TheVariants.{Count as NetCount}
-use Rattle.mk_net.specs.declared.key.Key.TheVariants.{PointsPerBit, MaxTrades, MaxUsers, MaxTransfers, Variable as VariableKey, Cliques, Links}
+use Rattle.mk_names.specs.declared.key.Key.TheVariants.{PointsPerBit, MaxTrades, MaxUsers, MaxTransfers, Variable as VariableKey, Cliques, Links}
 use Rattle.mk_net.proofs.Checked.{checked_is_network}
 use Rattle.mk_tree.specs.Given.{GivenTree, AreLinked}
 use Rattle.mk_tree.specs.Tests.{tree_fault}

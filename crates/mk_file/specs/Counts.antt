@@ -1,11 +1,10 @@
 -- The numbers of a market file, and the faults of the network in it.
 use Rattle.std.specs.Prelude.{ℕ, ◌+◌, ℤ, pos, negsuc, List, [], ◌∷◌, length, Bool, false, not, ◌==◌, Option, option_map}
-use Rattle.mk_net.specs.declared.key.Key.{Key}
-use Rattle.mk_net.specs.declared.key.Key.TheVariants.{PointsPerBit, MaxTrades, MaxUsers, MaxTransfers, Variable, Cliques, Links}
+use Rattle.mk_names.specs.declared.key.Key.{Key}
+use Rattle.mk_names.specs.declared.key.Key.TheVariants.{PointsPerBit, MaxTrades, MaxUsers, MaxTransfers, Variable, Cliques, Links}
 use Rattle.mk_net.specs.declared.fault.NetFault.{NetFault}
 use Rattle.mk_net.specs.declared.fault.NetFault.TheVariants.{Count as NetCount, BadName as NetBadName, Repeat as NetRepeat, Parent as NetParent, Rows as NetRows, Width as NetWidth, Entry as NetEntry, Sum as NetSum, Memory as NetMemory}
-use Rattle.mk_net.specs.Bounds.{max_cliques, max_users, max_market_trades, max_transfers, max_points_per_bit}
-use Rattle.mk_sets.specs.Sets.{max_variables}
+use Rattle.mk_net.specs.Bounds.{max_variables, max_cliques, max_users, max_market_trades, max_transfers, max_points_per_bit}
 use Rattle.mk_net.specs.Firsts.{fault_if, first_of, first_in}
 use Rattle.mk_net.specs.Checked.{is_within, count_at, later_fault}
 use Rattle.mk_file.specs.declared.fault.FileFault.{FileFault}

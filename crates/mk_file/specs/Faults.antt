@@ -1,8 +1,8 @@
 -- The line of a refused market file.
 use Rattle.std.specs.Prelude.{ℕ, ℤ, List, [], codes, decimal}
 use Rattle.std.specs.Fmt.{signed_decimal}
-use Rattle.mk_net.specs.Key.{key_text}
-use Rattle.mk_net.specs.declared.key.Key.{Key}
+use Rattle.mk_names.specs.Key.{key_text}
+use Rattle.mk_names.specs.declared.key.Key.{Key}
 use Rattle.mk_text.specs.Joined.{◌&◌}
 use Rattle.mk_file.specs.declared.fault.FileFault.{FileFault}
 use Rattle.mk_file.specs.declared.fault.FileFault.TheVariants.{TooLong, BadToml, Missing, WrongType, Count, BadName, Repeat, Parent, Rows, Width, Entry, Sum, Clique, Link, Cover, NotRunning, Cells, Memory}

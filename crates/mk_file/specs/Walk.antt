@@ -4,9 +4,9 @@ use Rattle.std.specs.Prelude.{ℕ, ◌+◌, ℤ, pos, Bool, false, List, [], ◌
 use Rattle.toml.specs.Data.{Data, Items, no_items, item, Members, get_member, as_str, as_integer, as_bool, as_array, as_table}
 use Rattle.mk_file.specs.declared.fault.FileFault.{FileFault}
 use Rattle.mk_file.specs.declared.fault.FileFault.TheVariants.{Missing, WrongType}
-use Rattle.mk_net.specs.declared.key.Key.{Key}
-use Rattle.mk_net.specs.declared.key.Key.TheVariants.{PointsPerBit, MaxTrades, MaxUsers, MaxTransfers, Variable, Cliques, Links, Zeros, Name, Values, Parents, Rows}
-use Rattle.mk_net.specs.Key.{key_text}
+use Rattle.mk_names.specs.declared.key.Key.{Key}
+use Rattle.mk_names.specs.declared.key.Key.TheVariants.{PointsPerBit, MaxTrades, MaxUsers, MaxTransfers, Variable, Cliques, Links, Zeros, Name, Values, Parents, Rows}
+use Rattle.mk_names.specs.Key.{key_text}
 use Rattle.mk_net.specs.Bounds.{usual_users, usual_transfers}
 use Rattle.mk_net.specs.Drafts.{DraftOfVariable}
 

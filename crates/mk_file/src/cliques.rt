@@ -1,8 +1,8 @@
 //! The cliques and links of a market file.
 
 ghost use Rattle.std.specs.Prelude.{◌≡◌, ◌≢◌, ◌-◌, ◌<◌, ◌≤◌, length, map, position, nat_abs, string_bytes, All, None, Some, IfSome, IfErr, IfOk, not, is_none};
-ghost use Rattle.mk_net.specs.Name.{IsName};
-ghost use Rattle.mk_net.specs.Texts.{same_text};
+ghost use Rattle.mk_names.specs.Name.{IsName};
+ghost use Rattle.mk_names.specs.Texts.{same_text};
 ghost use Rattle.mk_net.specs.Drafts.{texts_of};
 ghost use Rattle.mk_net.specs.Firsts.{first_in};
 ghost use Rattle.mk_file.specs.Counts.{is_whole_within};
@@ -10,7 +10,8 @@ ghost use Rattle.mk_file.specs.Cliques.{link_at};
 ghost use Rattle.mk_file.specs.inner.Known.{is_bad_clique, clique_in, set_in, IsSetOf};
 
 use crate::fault::FileFault;
-use mk_net::{Name, Network};
+use mk_names::Name;
+use mk_net::Network;
 use mk_sets::VarSet;
 use std::alloc::Global;
 

@@ -8,7 +8,8 @@ ghost use Rattle.mk_file.specs.inner.Views.{draft_of};
 
 use crate::fault::FileFault;
 use crate::walk::MarketDraft;
-use mk_net::Key;
+use mk_names::Key;
+use mk_net::limits::{MAX_MARKET_TRADES, MAX_POINTS_PER_BIT, MAX_TRANSFERS, MAX_USERS};
 
 /// The fault of a whole number that is not from 1 to a limit.
 fn whole_fault(key: Key, high: u32, n: i64) -> Option<FileFault>
@@ -80,10 +81,10 @@ fn check_wholes(draft: &MarketDraft) -> Result<(), FileFault>
     ensures passes { IfOk result (λ _. counts.wholes_fault (draft_of draft.now) ≡ None) }
     ensures stops { IfErr result (λ stop. counts.wholes_fault (draft_of draft.now) ≡ Some stop) }
 {
-    stop_at(whole_fault(Key::PointsPerBit, 1_000_000, draft.points_per_bit))?;
-    stop_at(whole_fault(Key::MaxTrades, 1_000_000, draft.max_trades))?;
-    stop_at(whole_fault(Key::MaxUsers, 65_536, draft.max_users))?;
-    stop_at(whole_fault(Key::MaxTransfers, 1_000_000, draft.max_transfers))
+    stop_at(whole_fault(Key::PointsPerBit, MAX_POINTS_PER_BIT, draft.points_per_bit))?;
+    stop_at(whole_fault(Key::MaxTrades, MAX_MARKET_TRADES, draft.max_trades))?;
+    stop_at(whole_fault(Key::MaxUsers, MAX_USERS, draft.max_users))?;
+    stop_at(whole_fault(Key::MaxTransfers, MAX_TRANSFERS, draft.max_transfers))
 }
 
 /// Goes on where each number is within its limits: those of the top, then those of the variables, then those of the

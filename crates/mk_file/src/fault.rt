@@ -5,7 +5,8 @@ ghost use Rattle.mk_file.specs.Counts.{of_net};
 ghost use Rattle.mk_file.specs.Cliques.{of_tree};
 ghost use Rattle.mk_file.specs.declared.fault.FileFault.TheVariants.{Memory};
 
-use mk_net::{Key, NetFault};
+use mk_names::Key;
+use mk_net::NetFault;
 use mk_tree::TreeFault;
 use std::alloc::{AllocError, AllocFailed};
 use thiserror::Error;

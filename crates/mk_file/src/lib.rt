@@ -15,4 +15,4 @@ mod walk;
 pub use fault::FileFault;
 pub use market_file::MarketFile;
 pub use print::print_fault;
-pub use read::read_market;
+pub use read::{MAX_FILE_BYTES, read_market};

@@ -8,7 +8,7 @@ ghost use Rattle.mk_file.specs.Faults.{fault_text, cause_text, place_text, then_
 use crate::fault::FileFault;
 use arrayvec::ArrayString;
 use itoa::Buffer;
-use mk_net::Key;
+use mk_names::Key;
 use mk_text::put_number;
 
 /// The line of a fault, which has room for the longest.

@@ -15,7 +15,7 @@ use std::alloc::Global;
 use toml::Table;
 
 /// The most bytes of a market file.
-const MAX_FILE_BYTES: usize = 1_048_576;
+pub const MAX_FILE_BYTES: usize = 1_048_576;
 
 /// The document of some bytes.
 fn read_document(alloc: Global, bytes: &[u8]) -> Result<Table, FileFault>

@@ -3,14 +3,14 @@
 ghost use Rattle.std.specs.Prelude.{◌≡◌, Some, None, IfOk, IfErr, OnErr, false, option_map, string_bytes};
 ghost use Rattle.toml.specs.Data.{get_member, as_str, as_integer, as_bool, as_table};
 ghost use Rattle.toml.specs.View.{view, table_view};
-ghost use Rattle.mk_net.specs.Key.{key_text};
+ghost use Rattle.mk_names.specs.Key.{key_text};
 ghost use Rattle.mk_net.specs.Drafts.{texts_of, rows_of};
 ghost use Rattle.mk_file.specs.Walk.{required, optional, list_of, texts, wholes};
 ghost use Rattle.mk_file.specs.inner.Views.{Gives, lists_of, tables_of};
 
 use crate::fault::FileFault;
 use crate::kinds::{read_lists, read_rows, read_tables, read_text, read_texts, read_wholes};
-use mk_net::Key;
+use mk_names::Key;
 use std::alloc::Global;
 use toml::{Table, Value};
 

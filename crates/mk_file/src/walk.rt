@@ -11,15 +11,11 @@ use crate::required::{
     is_set, required_lists, required_rows, required_tables, required_text, required_texts,
     required_whole, required_wholes, whole_or,
 };
-use mk_net::{Draft, Key, VariableDraft};
+use mk_names::Key;
+use mk_net::limits::{USUAL_TRANSFERS, USUAL_USERS};
+use mk_net::{Draft, VariableDraft};
 use std::alloc::Global;
 use toml::Table;
-
-/// The users of a market whose file does not say how many.
-const USUAL_USERS: i64 = 256;
-
-/// The transfers of a market whose file does not say how many.
-const USUAL_TRANSFERS: i64 = 65_536;
 
 /// What a document says, once each key is there and of its kind.
 #[derive(Debug, Drop)]
@@ -79,8 +75,8 @@ pub fn read_draft(alloc: Global, document: &Table) -> Result<MarketDraft, FileFa
 {
     let points_per_bit = required_whole(document, Key::PointsPerBit, 0)?;
     let max_trades = required_whole(document, Key::MaxTrades, 0)?;
-    let max_users = whole_or(document, Key::MaxUsers, 0, USUAL_USERS)?;
-    let max_transfers = whole_or(document, Key::MaxTransfers, 0, USUAL_TRANSFERS)?;
+    let max_users = whole_or(document, Key::MaxUsers, 0, USUAL_USERS as i64)?;
+    let max_transfers = whole_or(document, Key::MaxTransfers, 0, USUAL_TRANSFERS as i64)?;
     let tables = required_tables(alloc, document, Key::Variable, 0)?;
     let cliques = required_lists(alloc, document, Key::Cliques, 0)?;
     let links = required_wholes(alloc, document, Key::Links, 0)?;

@@ -1,6 +1,7 @@
 //! What is a name and what is none, and the rows of a question that is added.
 
-use mk_net::{Name, Row};
+use mk_names::Name;
+use mk_net::Row;
 use std::process::Abort;
 
 const NAMES: &str = "a,rain_2,z__9,abcdefghijklmnopqrstuvwxyz_01234";

@@ -3,7 +3,8 @@
 use crate::files::CUP;
 use mk_file::{MarketFile, read_market};
 use mk_fixtures::WEATHER;
-use mk_net::{Name, Network, Pair, PairText};
+use mk_names::Name;
+use mk_net::{Network, Pair, PairText};
 use std::process::Abort;
 use std::test::Fail;
 

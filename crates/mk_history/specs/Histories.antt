@@ -1,6 +1,6 @@
 -- What a history is to its callers.
 use Rattle.std.specs.Prelude.{ℕ, ◌-◌, List}
-use Rattle.mk_sets.specs.Sets.{max_variables}
+use Rattle.mk_net.specs.Bounds.{max_variables}
 use Rattle.mk_exact.specs.History.{Entry}
 
 -- the accepted changes in order, and the most trades, users and transfers among them

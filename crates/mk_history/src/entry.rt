@@ -1,7 +1,8 @@
 //! Accepted changes, as they are read.
 
 use arrayvec::ArrayVec;
-use mk_net::{Addition, Name, Pair, Ratio};
+use mk_names::Name;
+use mk_net::{Addition, Pair, Ratio};
 
 /// A question that was added: the variable that was put behind all others, the variables of its
 /// clique, in rising order, and the number of the clique to which that is linked.

@@ -3,8 +3,7 @@
 ghost use Rattle.std.specs.Prelude.{◌≡◌, ◌<◌, ◌≤◌, ◌+◌, [], ◌∷◌, ◌++◌, false, length, map, IfOk};
 ghost use Rattle.std.specs.Prelude.{vec_len, vec_capacity};
 ghost use Rattle.std.specs.List.{count_by};
-ghost use Rattle.mk_net.specs.Bounds.{max_users, max_transfers, max_market_trades};
-ghost use Rattle.mk_sets.specs.Sets.{max_variables};
+ghost use Rattle.mk_net.specs.Bounds.{max_variables, max_users, max_transfers, max_market_trades};
 ghost use Rattle.mk_net.specs.Trades.{trade_ratio};
 ghost use Rattle.mk_exact.specs.History.{Join, Deposit, Withdraw, Trade, Resolve, Settle, Add};
 ghost use Rattle.mk_exact.specs.History.{users, trades as trades_in, resolutions, additions};
@@ -14,21 +13,14 @@ ghost use Rattle.mk_history.specs.Histories.{max_additions};
 
 use crate::change::{Change, KeptTrade};
 use crate::entry::{AddedQuestion, Payout};
-use mk_net::{Name, NoMemory, Pair, Ratio};
+use mk_names::Name;
+use mk_net::limits::{MAX_CONDITION, MAX_VALUES, MAX_VARIABLES};
+use mk_net::{NoMemory, Pair, Ratio};
 use std::alloc::Global;
 use std::marker::Model;
 
-/// The most variables of a market, each of which is resolved once.
-const MAX_VARIABLES: usize = 256;
-
 /// The most questions that are added to a market, which has one at least when it opens.
-const MAX_ADDITIONS: usize = MAX_VARIABLES - 1;
-
-/// The most pairs of a condition.
-const MAX_CONDITION: usize = 8;
-
-/// The most factors of a trade: one for each value of its variable.
-const MAX_FACTORS: usize = 16;
+const MAX_ADDITIONS: usize = MAX_VARIABLES as usize - 1;
 
 /// The most trades, users and transfers of a market: a transfer is a deposit or a withdrawal.
 #[derive(Clone, Copy, Debug)]
@@ -77,12 +69,17 @@ impl History {
     {
         let trades = limits.trades as usize;
         let users = limits.users as usize;
-        let most = trades + limits.transfers as usize + users + MAX_VARIABLES + MAX_ADDITIONS + 1;
+        let most = trades
+            + limits.transfers as usize
+            + users
+            + MAX_VARIABLES as usize
+            + MAX_ADDITIONS
+            + 1;
         Ok(History {
             changes: Vec::with_capacity(alloc, most)?,
             names: Vec::with_capacity(alloc, users)?,
-            pairs: Vec::with_capacity(alloc, MAX_CONDITION * trades)?,
-            factors: Vec::with_capacity(alloc, MAX_FACTORS * trades)?,
+            pairs: Vec::with_capacity(alloc, MAX_CONDITION as usize * trades)?,
+            factors: Vec::with_capacity(alloc, MAX_VALUES as usize * trades)?,
             payments: Vec::new(alloc),
             questions: Vec::with_capacity(alloc, MAX_ADDITIONS)?,
             limits,

@@ -10,6 +10,7 @@ ghost use Rattle.mk_engine.specs.Beliefs.{CanBelieve, IsBelief};
 ghost use Rattle.mk_joint.specs.inner.Joints.{HasJoint, IsPlanFor, joint_states};
 
 use mk_engine::Engine;
+use mk_net::limits::MAX_CLIQUE_CELLS;
 use mk_net::{Event, Network, NoMemory, Pair, Ratio};
 use mk_scope::{CellList, Scope};
 use mk_semiring::Semiring;
@@ -18,9 +19,6 @@ use mk_table::{Scopes, Tables};
 use mk_tree::Tree;
 use std::alloc::Global;
 use std::rc::Rc;
-
-/// The most cells of a clique. A belief costs at most three steps for each.
-const MAX_CELLS: u32 = 4_096;
 
 /// The number of the one table.
 const WHOLE: usize = 0;
@@ -105,7 +103,7 @@ impl<R: Semiring> Engine<R> for JointEngine<R> {
             total,
             self.tables.shift(WHOLE),
             untouched,
-            self.factors + MAX_CELLS,
+            self.factors + MAX_CLIQUE_CELLS,
         )
     }
 

@@ -8,10 +8,8 @@ ghost use Rattle.mk_judge.specs.inner.Within.{AllInside, SomeOutside, SaysInside
 use crate::Judged;
 use crate::wanted::Wanted;
 use crate::wanting::wanted_of;
+use mk_net::limits::MILLION;
 use mk_quote::SideBounds;
-
-/// The parts that make a whole.
-const MILLION: u32 = 1_000_000;
 
 /// Judges, outside of the small case, whether each share of one side that is wanted lies inside
 /// limits: with None, whether there is none.

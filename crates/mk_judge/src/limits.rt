@@ -10,13 +10,8 @@ ghost use Rattle.mk_judge.specs.Limits.{CanBeTraded, IsLeastSolvent, AreEndsNear
 use crate::Judged;
 use crate::least::{Least, least_of};
 use crate::share::compare_below;
+use mk_net::limits::{MILLION, RATIO_UNIT};
 use mk_quote::SideBounds;
-
-/// The units of a ratio that leaves a weight as it was.
-const UNIT: u64 = 1 << 40;
-
-/// The parts in which a share is given.
-const MILLION: u64 = 1_000_000;
 
 /// Judges, outside of the small case, whether each share of an interval can be traded: whether
 /// some units are fair for it and
@@ -48,11 +43,11 @@ fn compare_shares(bounds: &SideBounds, units: u64, low: u32, high: u32) -> Judge
     ensures { (side : Side) → AreBoundsOf bounds.now side → IsLeastSolvent side.least units
         → Judges result (CanBeTraded side low high) (AreEndsNear bounds.now side units low high) }
 {
-    let least = low as u64 * UNIT;
+    let least = low as u64 * RATIO_UNIT;
     let most = high as u64 * ((1 << 30) - 1) * (1 << 10);
     let whole = &bounds.whole;
     let part = &bounds.part;
-    let fair = Judged::at_most(compare_below(whole, least, part, MILLION, units));
-    let reached = Judged::above(compare_below(whole, most, part, MILLION, 1 << 63));
+    let fair = Judged::at_most(compare_below(whole, least, part, MILLION as u64, units));
+    let reached = Judged::above(compare_below(whole, most, part, MILLION as u64, 1 << 63));
     fair.and(reached)
 }

@@ -2,8 +2,7 @@
 ghost use Rattle.std.specs.Prelude.{◌≡◌, ◌^◌, ◌≤◌};
 ghost use Rattle.mk_net.specs.Bounds.{sharpness};
 
-/// The most trades of a market whose printed numbers are sharpest.
-const USUAL_TRADES: u32 = 65_536;
+use mk_net::limits::USUAL_TRADES;
 
 /// Printed prices and cash are near by one part in this, where there may be so many trades.
 pub fn near_part(most_trades: u32) -> u64

@@ -15,10 +15,8 @@ ghost use Rattle.mk_judge.specs.inner.Absent.{SaysAbsent, SaysSomeAbsent};
 use crate::Judged;
 use crate::interval::{judge_interval, judge_no_share};
 use crate::units::judge_units;
+use mk_net::limits::RATIO_UNIT;
 use mk_quote::{SideBounds, SpreadBounds, ValueBounds};
-
-/// The units of a ratio that leaves a weight as it was.
-const UNIT: u64 = 1 << 40;
 
 /// Whether the interval of each value is right. Other numbers of them than of values are not.
 pub fn judge_each_interval(
@@ -135,7 +133,7 @@ fn judge_units_for(side: &Option<SideBounds>, small: bool, share: u32, units: u6
 {
     match side {
         Some(bounds) => judge_units(bounds, small, share, units),
-        None => Judged::where_true(share == 0 && units == UNIT),
+        None => Judged::where_true(share == 0 && units == RATIO_UNIT),
     }
 }
 

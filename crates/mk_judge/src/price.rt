@@ -15,9 +15,7 @@ use crate::comparing::Compared;
 use crate::near::near_part;
 use crate::share::{compare_above, compare_below};
 use mk_enclose::Enclosure;
-
-/// The units of a price of one.
-const UNIT: u64 = 10_000_000_000;
+use mk_net::limits::PRICE_UNIT;
 
 /// A price by bounds: of what cannot come, of what alone can, or bounds of its numerator and its
 /// denominator.
@@ -50,9 +48,9 @@ pub fn judge_price(
 {
     match bounds {
         PriceBounds::Never => only(0, low, high),
-        PriceBounds::Always => only(UNIT, low, high),
+        PriceBounds::Always => only(PRICE_UNIT, low, high),
         PriceBounds::Between { part, whole } => {
-            if low > high || high > UNIT {
+            if low > high || high > PRICE_UNIT {
                 Judged::Wrong
             } else if small {
                 rounded(part, whole, low, high)
@@ -81,10 +79,10 @@ fn rounded(part: &Enclosure, whole: &Enclosure, low: u64, high: u64) -> Judged
     ensures { (price : Fraction) (most_trades : ℕ) → IsPriceBetween part.now whole.now true price
         → Judges result (CoversPrice ⊤ (sharpness most_trades) price low high) ⊥ }
 {
-    let below = Judged::at_most(compare_below(part, UNIT, whole, 1, low));
-    let above = Judged::at_most(compare_above(part, UNIT, whole, 1, high));
-    let floor = Judged::above(compare_below(part, UNIT, whole, 1, low + 1));
-    let ceiling = Judged::above(compare_above(part, UNIT, whole, 1, high.saturating_sub(1)));
+    let below = Judged::at_most(compare_below(part, PRICE_UNIT, whole, 1, low));
+    let above = Judged::at_most(compare_above(part, PRICE_UNIT, whole, 1, high));
+    let floor = Judged::above(compare_below(part, PRICE_UNIT, whole, 1, low + 1));
+    let ceiling = Judged::above(compare_above(part, PRICE_UNIT, whole, 1, high.saturating_sub(1)));
     below.and(above).and(floor).and(ceiling)
 }
 
@@ -99,8 +97,8 @@ fn graded(part: &Enclosure, whole: &Enclosure, most_trades: u32, low: u64, high:
         (IsPriceNear (sharpness most_trades) (Between part.now whole.now) price low high) }
 {
     let near = near_part(most_trades);
-    let below = Judged::at_most(compare_below(part, UNIT, whole, 1, low));
-    let above = Judged::at_most(compare_above(part, UNIT, whole, 1, high));
+    let below = Judged::at_most(compare_below(part, PRICE_UNIT, whole, 1, low));
+    let above = Judged::at_most(compare_above(part, PRICE_UNIT, whole, 1, high));
     let low_near = Judged::above(near_below(part, whole, near, low));
     let high_near = Judged::above(near_above(part, whole, near, high));
     below.and(above).and(low_near).and(high_near)
@@ -119,7 +117,7 @@ fn near_below(part: &Enclosure, whole: &Enclosure, near: u64, low: u64) -> Compa
 {
     let less = part.mul(&Enclosure::exact(near - 1));
     let more = whole.mul(&Enclosure::exact(near));
-    compare_below(&less, UNIT, &more, 1, low + 1)
+    compare_below(&less, PRICE_UNIT, &more, 1, low + 1)
 }
 
 /// Compares the price with the unit before the high end, less by one part in `near`.
@@ -135,5 +133,5 @@ fn near_above(part: &Enclosure, whole: &Enclosure, near: u64, high: u64) -> Comp
 {
     let more = part.mul(&Enclosure::exact(near));
     let less = whole.mul(&Enclosure::exact(near - 1));
-    compare_above(&more, UNIT, &less, 1, high.saturating_sub(1))
+    compare_above(&more, PRICE_UNIT, &less, 1, high.saturating_sub(1))
 }

@@ -13,10 +13,8 @@ use crate::exact::judge_exact_limits;
 use crate::inside::{judge_inside, wanted_of_both};
 use crate::limits::judge_tradable;
 use crate::wanting::wanted_of;
+use mk_net::limits::MILLION;
 use mk_quote::{Bounds, SideBounds};
-
-/// The parts that make a whole: one more than the greatest share.
-const MILLION: u32 = 1_000_000;
 
 /// Judges the limits that are printed for a question: what is inside can be traded, and what can
 /// well be traded is inside. With `small` set nothing was rounded, and one answer alone is right.

@@ -12,13 +12,8 @@ use crate::Judged;
 use crate::share::compare_below;
 use crate::solvency::judge_solvent;
 use mk_enclose::Enclosure;
+use mk_net::limits::{MILLION, RATIO_UNIT};
 use mk_quote::SideBounds;
-
-/// The units of a ratio that leaves a weight as it was.
-const UNIT: u64 = 1 << 40;
-
-/// The parts in which a share is given.
-const MILLION: u64 = 1_000_000;
 
 /// Judges units that are printed for one side of a trade to `share` parts in a million. With
 /// `small` set nothing was rounded, and
@@ -53,9 +48,9 @@ fn exactly_fair(part: &Enclosure, whole: &Enclosure, share: u32, units: u64) -> 
         → IsExact part.now → IsExact whole.now
         → Judges result (IsFair ⊤ units share price) ⊥ }
 {
-    let times = share as u64 * UNIT;
-    let not_above = Judged::at_most(compare_below(whole, times, part, MILLION, units));
-    let floor = Judged::above(compare_below(whole, times, part, MILLION, units + 1));
+    let times = share as u64 * RATIO_UNIT;
+    let not_above = Judged::at_most(compare_below(whole, times, part, MILLION as u64, units));
+    let floor = Judged::above(compare_below(whole, times, part, MILLION as u64, units + 1));
     not_above.and(floor)
 }
 
@@ -67,9 +62,9 @@ fn nearly_fair(part: &Enclosure, whole: &Enclosure, share: u32, units: u64) -> J
     ensures { (price : Fraction) → Encloses part.now price.num → Encloses whole.now price.den
         → Judges result (IsFair ⊥ units share price) (IsFairNear part.now whole.now price units share) }
 {
-    let times = share as u64 * UNIT;
+    let times = share as u64 * RATIO_UNIT;
     let less = share as u64 * ((1 << 30) - 1) * (1 << 10);
-    let not_above = Judged::at_most(compare_below(whole, times, part, MILLION, units));
-    let close = Judged::above(compare_below(whole, less, part, MILLION, units + 1));
+    let not_above = Judged::at_most(compare_below(whole, times, part, MILLION as u64, units));
+    let close = Judged::above(compare_below(whole, less, part, MILLION as u64, units + 1));
     not_above.and(close)
 }

@@ -12,17 +12,18 @@ use crate::product::Product;
 use crate::scale::Scale;
 use crate::wanted::Wanted;
 use mk_enclose::Enclosure;
+use mk_net::limits::MILLION as PARTS;
 use mk_quote::SideBounds;
 use mk_scaled::Scaled;
 
 /// The parts that make a whole: one more than the greatest share.
-const MILLION: u64 = 1_000_000;
+const MILLION: u64 = PARTS as u64;
 
 /// What a part is multiplied by in the first inequality of a wanted share.
-const ABOVE_ONE: u64 = 1_000_000 * ((1 << 19) + 1);
+const ABOVE_ONE: u64 = MILLION * ((1 << 19) + 1);
 
 /// What it is multiplied by in the second: a move of the price by `2^22`.
-const NOT_FAR: u64 = 1_000_000 << 22;
+const NOT_FAR: u64 = MILLION << 22;
 
 /// The shares of one side that are wanted, by its bounds. The ends lie apart only where two
 /// numbers are near that decide about some share.

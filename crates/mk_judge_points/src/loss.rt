@@ -1,7 +1,6 @@
 //! Judgements of the printed bound on the operator's loss.
 ghost use Rattle.std.specs.Prelude.{◌≡◌, ℕ, ◌+◌, ◌*◌, ◌^◌, ◌<◌, ◌≤◌};
-ghost use Rattle.mk_net.specs.Bounds.{max_points_per_bit, number_limit, million};
-ghost use Rattle.mk_sets.specs.Sets.{max_variables};
+ghost use Rattle.mk_net.specs.Bounds.{max_variables, max_points_per_bit, number_limit, million};
 ghost use Rattle.mk_exact.specs.Risk.{CoversBound};
 ghost use Rattle.mk_scaled.specs.Range.{two_to};
 ghost use Rattle.mk_enclose.specs.Enclosure.{upper_of, Encloses, HasGrade, IsGradedWithin};

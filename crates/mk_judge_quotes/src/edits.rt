@@ -20,11 +20,9 @@ ghost use Rattle.mk_judge_quotes.specs.Told.{beyond_told};
 
 use crate::told::beyond_told;
 use mk_judge::{Judged, judge_limits, judge_units};
+use mk_net::limits::MILLION;
 use mk_quote::{Bounds, SideBounds};
 use mk_reply::Reply;
-
-/// The parts in which a share is given.
-const MILLION: u32 = 1_000_000;
 
 /// Judges the limits that a reply tells at a revision.
 pub fn judge_told_limits(bounds: &Bounds, small: bool, now: u64, reply: &Reply) -> Judged

@@ -5,9 +5,9 @@ use Rattle.std.specs.List.{position_or_len}
 use Rattle.std.proofs.Common.{refl, sym, ap, ◌∙◌, subst, arith}
 use Rattle.std.proofs.lemmas.List.{length-map, map-append}
 use Rattle.std.proofs.lemmas.Option.{slice_get_within, get_or_from_slice_get}
-use Rattle.mk_net.specs.Texts.{same_text}
+use Rattle.mk_names.specs.Texts.{same_text}
 use Rattle.mk_net.proofs.Distinct.{found_at}
-use Rattle.mk_net.proofs.SameText.{equal_of_same_text}
+use Rattle.mk_names.proofs.SameText.{equal_of_same_text}
 use Rattle.mk_exact.specs.History.{Entry, join_in, users}
 use Rattle.mk_exact.proofs.After.{users_kept}
 use Rattle.mk_assets.specs.declared.assets.Assets.{Assets}

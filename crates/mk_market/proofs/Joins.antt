@@ -3,7 +3,7 @@ use Rattle.std.specs.Prelude.{◌≡◌, ℕ, List, [], ◌∷◌, ◌++◌, map
 use Rattle.std.proofs.Common.{inr, refl, sym, ap, ap₂, ◌∙◌, subst, arith}
 use Rattle.std.proofs.lemmas.List.{length_push, map-append}
 use Rattle.mk_net.specs.Network.{Variable}
-use Rattle.mk_net.specs.Name.{IsName}
+use Rattle.mk_names.specs.Name.{IsName}
 use Rattle.mk_exact.specs.History.{Entry, Join, users, resolutions, revision, is_settlement}
 use Rattle.mk_exact.proofs.After.{users_more}
 use Rattle.mk_tree.specs.Given.{GivenTree}

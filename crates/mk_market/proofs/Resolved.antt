@@ -6,7 +6,7 @@ use Rattle.std.specs.List.{cons_option}
 use Rattle.std.proofs.lemmas.List.{length_push}
 use Rattle.mk_net.specs.declared.words.Pair.{Pair}
 use Rattle.mk_net.specs.declared.words.PairText.{PairText}
-use Rattle.mk_sets.specs.Sets.{max_variables}
+use Rattle.mk_net.specs.Bounds.{max_variables}
 use Rattle.mk_net.specs.Firsts.{first_of}
 use Rattle.mk_net.specs.Named.{pair_named}
 use Rattle.mk_net.specs.Network.{Variable}

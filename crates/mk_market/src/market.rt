@@ -3,7 +3,8 @@
 use mk_cash::Ledger;
 use mk_engine::Engine;
 use mk_file::MarketFile;
-use mk_net::{Name, Network};
+use mk_names::Name;
+use mk_net::Network;
 use mk_record::{Journal, Users};
 use mk_replay::Till;
 use mk_reply::Payments;
@@ -48,10 +49,9 @@ impl<P: Engine<SumProd>, A: Engine<MinProd>> Model for Market<P, A> {
 
 impl<P: Engine<SumProd>, A: Engine<MinProd>> Market<P, A> {
     ghost use Rattle.std.specs.Prelude.{◌≡◌, ◌≤◌, ◌<◌, length, position, IfSome};
-    ghost use Rattle.mk_net.specs.Bounds.{max_points_per_bit};
-    ghost use Rattle.mk_sets.specs.Sets.{max_variables};
+    ghost use Rattle.mk_net.specs.Bounds.{max_variables, max_points_per_bit};
     ghost use Rattle.mk_exact.specs.History.{additions, users};
-    ghost use Rattle.mk_net.specs.Texts.{same_text};
+    ghost use Rattle.mk_names.specs.Texts.{same_text};
     ghost use Rattle.mk_tree.specs.Checked.{IsTreeOf};
     ghost use Rattle.mk_restore.specs.Laws.{IsSafe};
     ghost use Rattle.mk_market.specs.Points.{AreAccounts};

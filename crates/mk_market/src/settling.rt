@@ -3,11 +3,12 @@
 use crate::market::Market;
 use crate::restoring::RestoreFault;
 use mk_engine::Engine;
-use mk_net::Name;
+use mk_names::Name;
+use mk_net::limits::MAX_PAYMENTS;
 use mk_record::{refuse_paid, refuse_settle};
 use mk_reply::{Payment, Reply};
 use mk_semiring::{MinProd, SumProd};
-use mk_settling::{MAX_LISTED, enter, list, pay_all_by_rule, tell};
+use mk_settling::{enter, list, pay_all_by_rule, tell};
 use mk_told::{tells_total, told_payments};
 
 impl<P: Engine<SumProd>, A: Engine<MinProd>> Market<P, A> {
@@ -29,7 +30,7 @@ impl<P: Engine<SumProd>, A: Engine<MinProd>> Market<P, A> {
         if let Err(why) = refuse_settle(&self.file, &self.journal) {
             return Reply::Refused { why };
         }
-        if self.users.count() > MAX_LISTED {
+        if self.users.count() > MAX_PAYMENTS {
             self.settle_by_rule()
         } else {
             self.settle_listed()
@@ -98,7 +99,7 @@ impl<P: Engine<SumProd>, A: Engine<MinProd>> Market<P, A> {
         ensures { IsTried self.old self.new Settle reply.now result }
     {
         refuse_settle(&self.file, &self.journal)?;
-        if self.users.count() > MAX_LISTED {
+        if self.users.count() > MAX_PAYMENTS {
             self.restore_by_rule(reply)
         } else {
             self.restore_listed(reply)

@@ -7,7 +7,8 @@ use mk_asking::{
     Stopped, fresh_spread_quote, judge_spread, ratio_of_spread, refuse_stopped, trade,
 };
 use mk_engine::Engine;
-use mk_net::{Name, PairText};
+use mk_names::Name;
+use mk_net::PairText;
 use mk_record::{LastQuote, SpreadWish, refuse_bounds, refuse_spread};
 use mk_reply::{Intervals, Refusal, Reply};
 use mk_semiring::{MinProd, SumProd};

@@ -6,7 +6,7 @@ use mk_answers::{least_of, most_bits};
 use mk_asking::learn;
 use mk_assets::Assets;
 use mk_engine::Engine;
-use mk_net::Name;
+use mk_names::Name;
 use mk_record::{refuse_transfer, refuse_user};
 use mk_reply::{Refusal, Reply};
 use mk_semiring::{MinProd, SumProd};

@@ -1,25 +1,22 @@
 -- A network with one variable behind it.
 use Rattle.std.specs.Prelude.{◌≡◌, ◌≢◌, ℕ, zero, suc, ◌+◌, ◌*◌, ◌<◌, ◌≤◌, List, [], ◌∷◌, ◌++◌}
-use Rattle.std.specs.Prelude.{filter, length, sum, All, get_or, slice_index, Bool, true, false}
-use Rattle.std.specs.Prelude.{cond, ◌==◌}
-use Rattle.std.specs.List.{AllByRecursion, list_any, range_with_len}
-use Rattle.std.proofs.Common.{◌⊎◌, inl, inr, refl, sym, ap, ap₂, subst, ◌∙◌, arith, append-nil}
+use Rattle.std.specs.Prelude.{filter, length, All, get_or, slice_index, Bool}
+use Rattle.std.specs.Prelude.{cond}
+use Rattle.std.specs.List.{AllByRecursion, range_with_len}
+use Rattle.std.proofs.Common.{◌⊎◌, inl, inr, refl, sym, ap, ap₂, subst, ◌∙◌, arith}
 use Rattle.std.proofs.Math.Nat.{one-le-mul}
-use Rattle.std.proofs.lemmas.Bool.{cases_lt, eqb-true}
+use Rattle.std.proofs.lemmas.Bool.{cases_lt}
 use Rattle.std.proofs.lemmas.List.{map-append, get_or_append_left, get_or_push, length_push}
 use Rattle.std.proofs.lemmas.List.{length-map}
-use Rattle.std.proofs.lemmas.List.Folds.{list_any_none}
 use Rattle.std.proofs.lemmas.List.Quantifiers.{all_pairs_push}
-use Rattle.std.proofs.lemmas.List.Elements.{All-head, recursion_from_All}
-use Rattle.mk_net.specs.Name.{IsName}
-use Rattle.mk_net.specs.Bounds.{max_values, max_parents, million}
+use Rattle.std.proofs.lemmas.List.Elements.{recursion_from_All}
+use Rattle.mk_names.specs.Name.{IsName}
+use Rattle.mk_net.specs.Bounds.{max_values, max_parents}
 use Rattle.mk_net.specs.Network.{Variable, IsVariable, IsNetwork, sizes, names, choices}
 use Rattle.mk_net.specs.Named.{variable_at, nobody}
-use Rattle.mk_net.specs.Zeros.{has_zero, with_zeros, HasNoZeros}
+use Rattle.mk_net.specs.Zeros.{HasNoZeros}
 use Rattle.mk_net.specs.Additions.{variable_of_addition, CanExtend}
 use Rattle.mk_net.specs.declared.addition.Addition.{Addition}
-use Rattle.mk_net.proofs.Networks.{two_values}
-use Rattle.mk_net.proofs.Zeroed.{numbers_kept}
 
 -- the product looks at the values of the parents alone
 pub choices_same : (ns ms : List ℕ) (n : ℕ) → ((p : ℕ) → p < n → slice_index ms p

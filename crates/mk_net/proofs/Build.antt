@@ -6,8 +6,8 @@ use Rattle.std.proofs.Common.{sym, ap, ◌∙◌, arith}
 use Rattle.std.proofs.lemmas.List.{get_or-map, length-map, take_more, map-append}
 use Rattle.indexmap.specs.IndexMap.{insert_entry}
 use Rattle.indexmap.specs.IndexSet.{insert_key}
-use Rattle.mk_net.specs.Name.{is_name}
-use Rattle.mk_net.specs.Texts.{same_text}
+use Rattle.mk_names.specs.Name.{is_name}
+use Rattle.mk_names.specs.Texts.{same_text}
 use Rattle.mk_net.specs.Network.{Variable}
 use Rattle.mk_net.specs.Stored.{variable_of, variables_of}
 use Rattle.mk_net.specs.Drafts.{DraftOfVariable, drafts_of, draft_of_variable}

@@ -5,15 +5,15 @@ use Rattle.std.proofs.Common.{refl, sym, ap, subst, ◌∙◌, arith}
 use Rattle.std.proofs.lemmas.List.{get_or-map, length-map}
 use Rattle.std.proofs.lemmas.List.Elements.{All-map}
 use Rattle.std.proofs.lemmas.Bool.{eqb-true, leb-true, ltb-true, not-false}
-use Rattle.mk_net.specs.Name.{IsName, is_name, max_name_bytes, begins_with_letter, is_name_byte}
+use Rattle.mk_names.specs.Name.{IsName, is_name, max_name_bytes, begins_with_letter, is_name_byte}
 use Rattle.mk_net.specs.Network.{Variable, IsRow, IsVariable, IsNetwork, sizes, names, choices}
-use Rattle.mk_net.specs.inner.TextLaws.{both}
+use Rattle.mk_names.specs.inner.TextLaws.{both}
 use Rattle.mk_net.specs.Named.{nobody}
 use Rattle.mk_net.specs.Zeros.{HasNoZeros}
 use Rattle.mk_net.specs.Firsts.{fault_if, first_in}
 use Rattle.mk_net.specs.Drafts.{DraftOfVariable}
 use Rattle.mk_net.specs.Checked.{is_within, has_double, number_of, is_before, counts, parents_in, share, is_share, count_at, name_at, repeat_at, parent_at, rows_at, width_of, width_at, entry_of, entry_at, sum_of, sum_at, count_fault, later_fault, first_fault, checked_variable, checked_network}
-use Rattle.mk_net.specs.declared.key.Key.TheVariants.{Variable as VariableKey}
+use Rattle.mk_names.specs.declared.key.Key.TheVariants.{Variable as VariableKey}
 use Rattle.mk_net.specs.declared.fault.NetFault.TheVariants.{Count, BadName, Repeat, Parent, Rows, Sum}
 use Rattle.mk_net.proofs.Firsts.{neither, untested, passed, none_at}
 use Rattle.mk_net.proofs.Taken.{neither_of}

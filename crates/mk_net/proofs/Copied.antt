@@ -9,8 +9,8 @@ use Rattle.std.proofs.lemmas.List.Elements.{All-push}
 use Rattle.std.specs.List.{each_same}
 use Rattle.indexmap.specs.IndexMap.{insert_entry}
 use Rattle.indexmap.specs.IndexSet.{insert_key}
-use Rattle.mk_net.specs.Name.{IsName}
-use Rattle.mk_net.specs.Texts.{same_text}
+use Rattle.mk_names.specs.Name.{IsName}
+use Rattle.mk_names.specs.Texts.{same_text}
 use Rattle.mk_net.specs.Network.{Variable, names, AreDistinct}
 use Rattle.mk_net.specs.Stored.{variable_of, variables_of}
 use Rattle.mk_net.specs.declared.network.StoredVariable.{StoredVariable}

@@ -4,12 +4,12 @@ use Rattle.std.proofs.Common.{refl, ◌∙◌, arith, get_or}
 use Rattle.std.proofs.lemmas.List.{length-map}
 use Rattle.std.proofs.lemmas.Bool.{eqb-true, leb-true, le-leb, ltb-false}
 use Rattle.std.specs.declared.alloc.Global.{Global}
-use Rattle.mk_net.specs.inner.TextLaws.{both}
+use Rattle.mk_names.specs.inner.TextLaws.{both}
 use Rattle.mk_net.specs.Firsts.{fault_if, first_in}
 use Rattle.mk_net.specs.Drafts.{DraftOfVariable, draft_of_variable}
 use Rattle.mk_net.specs.Checked.{is_within, is_share, count_at, count_fault, width_of, width_at, entry_of, entry_at}
 use Rattle.mk_net.specs.inner.Counted.{IsCounted, HasWidths, HasShares}
-use Rattle.mk_net.specs.declared.key.Key.TheVariants.{Variable as VariableKey, Values, Parents}
+use Rattle.mk_names.specs.declared.key.Key.TheVariants.{Variable as VariableKey, Values, Parents}
 use Rattle.mk_net.specs.declared.fault.NetFault.TheVariants.{Count, Width, Entry}
 use Rattle.mk_net.specs.declared.draft.VariableDraft.{VariableDraft}
 use Rattle.mk_net.proofs.Firsts.{neither, untested, passed, none_at, none_of_map}

@@ -1,7 +1,5 @@
-pub mod Kept
 pub mod Networks
 pub mod StoredReads
-pub mod SameText
 pub mod Named
 pub mod Blanks
 pub mod Events

@@ -9,7 +9,7 @@ use Rattle.std.proofs.lemmas.Bool.{ltb-true, ltb-false}
 use Rattle.std.proofs.lemmas.Option.{slice_get_past, slice_get-get_or}
 use Rattle.std.proofs.lemmas.List.Quantifiers.{position-Some}
 use Rattle.mk_net.specs.Network.{Variable, sizes}
-use Rattle.mk_net.specs.Texts.{same_text}
+use Rattle.mk_names.specs.Texts.{same_text}
 use Rattle.mk_net.specs.Named.{nobody, variable_at, value_named, pair_named}
 use Rattle.mk_net.specs.Stored.{variables_of}
 use Rattle.mk_net.specs.declared.network.StoredVariable.{StoredVariable}
@@ -18,7 +18,7 @@ use Rattle.mk_net.specs.declared.words.PairText.{PairText}
 use Rattle.mk_net.proofs.StoredReads.{names_stored, values_stored}
 use Rattle.mk_net.proofs.Mapped.{position_of_map}
 use Rattle.mk_net.proofs.Networks.{size_at}
-use Rattle.mk_net.proofs.SameText.{equal_of_same_text}
+use Rattle.mk_names.proofs.SameText.{equal_of_same_text}
 
 places : (p : Variable → Bool) (xs : List Variable) (j : ℕ) →
     position_or_len (λ (n : ℕ × Variable). p (n.1)) (enumerate_from j xs) ≡ position_or_len p xs

@@ -1,7 +1,7 @@
 -- The number of a name among the variables of a draft.
 use Rattle.std.specs.Prelude.{◌≡◌, ℕ, List, Some, None, position, string_bytes, vec_len}
 use Rattle.std.proofs.Common.{sym, ◌∙◌}
-use Rattle.mk_net.specs.Texts.{same_text}
+use Rattle.mk_names.specs.Texts.{same_text}
 use Rattle.mk_net.specs.Drafts.{DraftOfVariable, drafts_of, draft_of_variable}
 use Rattle.mk_net.specs.Checked.{number_of}
 use Rattle.mk_net.specs.declared.draft.VariableDraft.{VariableDraft}

@@ -8,8 +8,8 @@ use Rattle.std.proofs.lemmas.List.{get_or-take, get_or_default, length-take}
 use Rattle.std.proofs.lemmas.List.Folds.{list_any_none}
 use Rattle.indexmap.specs.IndexMap.{insert_entry}
 use Rattle.indexmap.specs.IndexSet.{insert_key}
-use Rattle.mk_net.specs.Texts.{same_text}
-use Rattle.mk_net.specs.inner.TextLaws.{same_text_equiv, equal_of_same_text}
+use Rattle.mk_names.specs.Texts.{same_text}
+use Rattle.mk_names.specs.inner.TextLaws.{same_text_equiv, equal_of_same_text}
 use Rattle.mk_net.specs.Network.{AreDistinct}
 use Rattle.mk_net.specs.Checked.{has_double}
 

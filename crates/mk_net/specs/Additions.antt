@@ -1,7 +1,6 @@
 -- A question that is added to a network: the variable that it is, and when it may come.
 use Rattle.std.specs.Prelude.{◌≡◌, ◌≢◌, ◌<◌, ◌≤◌, List, length, sum, All}
-use Rattle.mk_net.specs.Bounds.{million}
-use Rattle.mk_sets.specs.Sets.{max_variables}
+use Rattle.mk_net.specs.Bounds.{max_variables, million}
 use Rattle.mk_net.specs.Network.{Variable, sizes, choices, names, AreDistinct}
 use Rattle.mk_net.specs.declared.addition.Addition.{Addition}
 

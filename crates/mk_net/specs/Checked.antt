@@ -2,13 +2,12 @@
 -- each over all variables before the next; variables, rows and columns are numbered from 1. `zeros` says whether shares of nothing may occur.
 use Rattle.std.specs.Prelude.{ℕ, ◌-◌, ℤ, pos, negsuc, List, [], ◌∷◌, length, map, sum, Bool, false, ◌&&◌, ◌||◌, not, ◌==◌, nat_lt, nat_le, if◌then◌else◌, Option}
 use Rattle.std.specs.List.{list_all, list_any, position_or_len}
-use Rattle.mk_net.specs.declared.key.Key.TheVariants.{Variable as VariableKey, Values, Parents}
+use Rattle.mk_names.specs.declared.key.Key.TheVariants.{Variable as VariableKey, Values, Parents}
 use Rattle.mk_net.specs.declared.fault.NetFault.{NetFault}
 use Rattle.mk_net.specs.declared.fault.NetFault.TheVariants.{Count, BadName, Repeat, Parent, Rows, Width, Entry, Sum}
-use Rattle.mk_net.specs.Name.{is_name}
-use Rattle.mk_net.specs.Bounds.{max_values, max_parents, million}
-use Rattle.mk_sets.specs.Sets.{max_variables}
-use Rattle.mk_net.specs.Texts.{same_text}
+use Rattle.mk_names.specs.Name.{is_name}
+use Rattle.mk_net.specs.Bounds.{max_variables, max_values, max_parents, million}
+use Rattle.mk_names.specs.Texts.{same_text}
 use Rattle.mk_net.specs.Network.{Variable, choices}
 use Rattle.mk_net.specs.Drafts.{DraftOfVariable}
 use Rattle.mk_net.specs.Firsts.{fault_if, or_else, first_of, first_in}

@@ -1,13 +1,10 @@
-pub mod Name
 pub mod Bounds
 pub mod Network
 pub mod Asked
-pub mod Texts
 pub mod Named
 pub mod Zeros
 pub mod Stored
 pub mod Additions
-pub mod Key
 pub mod Drafts
 pub mod Firsts
 pub mod Checked

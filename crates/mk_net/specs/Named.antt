@@ -4,7 +4,7 @@ use Rattle.std.specs.List.{enumerate_from}
 use Rattle.mk_net.specs.declared.words.Pair.{Pair}
 use Rattle.mk_net.specs.declared.words.PairText.{PairText}
 use Rattle.mk_net.specs.Network.{Variable}
-use Rattle.mk_net.specs.Texts.{same_text}
+use Rattle.mk_names.specs.Texts.{same_text}
 
 abbrev pub nobody : Variable
 nobody = record { name = []; values = []; parents = []; rows = [] }

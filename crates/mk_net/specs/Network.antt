@@ -1,9 +1,8 @@
 -- Networks of variables: what each layer knows of the questions of a market.
 use Rattle.std.specs.Prelude.{◌≡◌, ◌≢◌, ℕ, ◌*◌, ◌<◌, ◌≤◌, List, [], ◌∷◌, length, map, sum, All, slice_index, slice_index_or}
 use Rattle.std.specs.List.{AllPairs}
-use Rattle.mk_net.specs.Name.{IsName}
-use Rattle.mk_net.specs.Bounds.{max_values, max_parents, million}
-use Rattle.mk_sets.specs.Sets.{max_variables}
+use Rattle.mk_names.specs.Name.{IsName}
+use Rattle.mk_net.specs.Bounds.{max_variables, max_values, max_parents, million}
 
 -- a variable: its name, the names of its values, its parents' numbers, and one row for each list of the parents' values
 pub record Variable : Type 0 where

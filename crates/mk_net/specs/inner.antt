@@ -3,6 +3,3 @@ pub mod Counted
 pub mod KeptEvents
 pub mod KeptQuestions
 pub mod KeptRows
-pub mod Padded
-pub mod PaddedLaws
-pub mod TextLaws

@@ -1,8 +1,8 @@
 //! A question that is added to a market.
 
-use crate::name::Name;
 use crate::row::Row;
 use arrayvec::ArrayVec;
+use mk_names::Name;
 
 /// A variable to be put behind those of a network: its name, the names of its values, the numbers
 /// of its parents, and a

@@ -5,7 +5,8 @@ ghost use Rattle.mk_net.specs.Drafts.{drafts_of, draft_of_variable};
 ghost use Rattle.mk_net.specs.Checked.{count_fault, count_at};
 
 use crate::fault::NetFault;
-use crate::key::Key;
+use crate::limits::MAX_VARIABLES;
+use mk_names::Key;
 
 /// A variable: its words as texts, its rows as whole numbers.
 #[derive(Debug, Drop)]
@@ -30,7 +31,7 @@ impl Draft {
         ensures { result ≡ count_fault (drafts_of self.now) }
     {
         let count = self.variables.len();
-        if count < 1 || count > 256 {
+        if count < 1 || count > MAX_VARIABLES as usize {
             return Some(NetFault::Count {
                 key: Key::Variable,
                 place: 0,

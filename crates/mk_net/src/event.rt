@@ -4,11 +4,9 @@ ghost use Rattle.std.specs.Prelude.{◌≡◌, ◌++◌, ◌∷◌, [], ◌⊎�
 ghost use Rattle.mk_net.specs.Bounds.{max_pairs};
 ghost use Rattle.mk_net.specs.Events.{speaks_of, IsEvent};
 
+use crate::limits::MAX_PAIRS;
 use crate::words::Pair;
 use std::marker::Model;
-
-/// The most pairs of an event.
-const MAX_PAIRS: u8 = 9;
 
 /// A list of at most nine pairs, none of which speaks of another's variable.
 #[derive(Clone, Copy, Debug)]
@@ -54,7 +52,7 @@ impl Event {
         ensures none { IfNone result ((length self.now ≡ max_pairs) ⊎ (speaks_of self.now pair.variable ≡ true)) }
         ensures event { IfSome result (λ event. IsEvent event) }
     {
-        if self.size >= MAX_PAIRS || speaks_of(self.pairs(), pair.variable) {
+        if self.size as u32 >= MAX_PAIRS || speaks_of(self.pairs(), pair.variable) {
             return None;
         }
         let mut longer = *self;

@@ -3,8 +3,8 @@
 ghost use Rattle.std.specs.Prelude.{◌≡◌};
 ghost use Rattle.mk_net.specs.declared.fault.NetFault.TheVariants.{Memory};
 
-use crate::key::Key;
 use crate::words::NoMemory;
+use mk_names::Key;
 use std::alloc::{AllocError, AllocFailed};
 use thiserror::Error;
 

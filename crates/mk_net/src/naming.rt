@@ -2,15 +2,15 @@
 
 ghost use Rattle.std.specs.Prelude.{◌≡◌, ◌<◌, ◌≤◌, length, map, position, string_bytes, IfSome};
 ghost use Rattle.std.specs.List.{list_all, list_any};
-ghost use Rattle.mk_net.specs.Name as name;
+ghost use Rattle.mk_names.specs.Name as name;
 ghost use Rattle.mk_net.specs.Drafts.{drafts_of, draft_of_variable};
 ghost use Rattle.mk_net.specs.Firsts.{first_in};
-ghost use Rattle.mk_net.specs.Texts.{same_text};
+ghost use Rattle.mk_names.specs.Texts.{same_text};
 ghost use Rattle.mk_net.specs.Checked.{is_before, number_of, has_double, name_at, repeat_at, parent_at};
 
 use crate::draft::{Draft, VariableDraft};
 use crate::fault::NetFault;
-use crate::name::is_name;
+use mk_names::is_name;
 
 impl Draft {
     /// The first variable with a word that is no name.

@@ -3,9 +3,9 @@
 use crate::addition::Addition;
 use crate::draft::Draft;
 use crate::fault::NetFault;
-use crate::name::Name;
 use crate::words::{NoMemory, Pair, PairText};
 use indexmap::{IndexMap, IndexSet};
+use mk_names::Name;
 use std::alloc::{AllocError, Global};
 use std::marker::Model;
 
@@ -65,7 +65,7 @@ impl Network {
     ghost use Rattle.std.specs.Prelude.{false, All, IfOk, IfErr, IfSome, slice_index, slice_index_or, ◌≤◌};
     ghost use Rattle.mk_net.specs.Network.{IsNetwork, sizes};
     ghost use Rattle.mk_net.specs.Named.{variable_at, pair_named};
-    ghost use Rattle.mk_net.specs.Texts.{same_text};
+    ghost use Rattle.mk_names.specs.Texts.{same_text};
     ghost use Rattle.mk_net.specs.Drafts.{drafts_of};
     ghost use Rattle.mk_net.specs.Zeros.{with_zeros, HasNoZeros};
     ghost use Rattle.mk_net.specs.Additions.{variable_of_addition, CanExtend};

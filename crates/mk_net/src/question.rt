@@ -5,11 +5,9 @@ ghost use Rattle.mk_net.specs.Bounds.{max_condition};
 ghost use Rattle.mk_net.specs.Events.{speaks_of, IsEvent, IsQuestion, pairs_asked};
 
 use crate::event::{Event, speaks_of};
+use crate::limits::MAX_CONDITION;
 use crate::words::Pair;
 use std::marker::Model;
-
-/// The most pairs of a condition.
-const MAX_CONDITION: usize = 8;
 
 /// A target pair, and a condition of at most eight pairs that does not speak of the target's variable.
 #[derive(Clone, Copy, Debug)]
@@ -43,7 +41,7 @@ impl Question {
         ensures question { IfSome result (λ asked. IsQuestion asked) }
     {
         let pairs = condition.pairs();
-        if pairs.len() > MAX_CONDITION || speaks_of(pairs, target.variable) {
+        if pairs.len() > MAX_CONDITION as usize || speaks_of(pairs, target.variable) {
             return None;
         }
         Some(Question { target, condition })

@@ -3,13 +3,11 @@
 ghost use Rattle.std.specs.Prelude.{◌≡◌, ◌<◌, ◌≤◌, ◌++◌, ◌∷◌, ◌↔◌, [], length, IsSome, IfSome};
 ghost use Rattle.std.specs.Cmp.{partial_equiv_from_equiv};
 ghost use Rattle.mk_net.specs.Bounds.{max_values};
-ghost use Rattle.mk_net.specs.Texts.{same_text};
-ghost use Rattle.mk_net.specs.inner.TextLaws.{same_text_equiv};
+ghost use Rattle.mk_names.specs.Texts.{same_text};
+ghost use Rattle.mk_names.specs.inner.TextLaws.{same_text_equiv};
 
+use crate::limits::MAX_VALUES;
 use std::marker::Model;
-
-/// The most numbers of a row.
-const MAX_NUMBERS: u8 = 16;
 
 /// A list of at most sixteen numbers: one for each value of a question, in parts per million.
 #[derive(Clone, Copy, Debug)]
@@ -83,7 +81,7 @@ impl Row {
         ensures room { IsSome result ↔ (length self.now < max_values) }
         ensures longer { IfSome result (λ row. row ≡ self.now ++ number ∷ []) }
     {
-        if self.size >= MAX_NUMBERS {
+        if self.size as u32 >= MAX_VALUES {
             return None;
         }
         let mut longer = *self;

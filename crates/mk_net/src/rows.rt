@@ -9,9 +9,10 @@ ghost use Rattle.mk_net.specs.inner.Counted.{IsCounted, IsNumbered, HasWidths, H
 
 use crate::draft::{Draft, VariableDraft};
 use crate::fault::NetFault;
+use crate::limits::MILLION;
 
 /// The greatest share: all of a row.
-const WHOLE: i64 = 1_000_000;
+const WHOLE: i64 = MILLION as i64;
 
 impl Draft {
     /// Whether each row of each variable has a number.

@@ -2,8 +2,8 @@
 
 ghost use Rattle.std.specs.Prelude.{⊤};
 
-use crate::name::Name;
 use arrayvec::ArrayVec;
+use mk_names::Name;
 use std::alloc::{AllocError, AllocFailed};
 use thiserror::Error;
 

@@ -8,7 +8,8 @@ use Rattle.std.proofs.lemmas.Bool.{not-false}
 use Rattle.std.proofs.lemmas.List.{map-id, map-append, length-map, length_push}
 use Rattle.std.proofs.lemmas.List.FromFn.{map-range_with_len_more}
 use Rattle.std.proofs.lemmas.List.Elements.{All-from_recursion, recursion_from_All, filter-append}
-use Rattle.mk_sets.specs.Sets.{max_variables, VarSet, is_member, no_variables}
+use Rattle.mk_sets.specs.Sets.{VarSet, is_member, no_variables}
+use Rattle.mk_net.specs.Bounds.{max_variables}
 use Rattle.mk_net.specs.Network.{Variable, IsNetwork, sizes, choices}
 use Rattle.mk_net.specs.Additions.{CanExtend}
 use Rattle.mk_net.proofs.Behind.{filter_below}

@@ -3,7 +3,8 @@ use Rattle.std.specs.Prelude.{◌≡◌, ℕ, ◌<◌, List, [], ◌∷◌, ◌+
 use Rattle.std.specs.Prelude.{slice_get, All, ◌==◌}
 use Rattle.std.specs.List.{list_any}
 use Rattle.mk_net.specs.Network.{Variable, IsNetwork}
-use Rattle.mk_sets.specs.Sets.{max_variables, VarSet, is_member}
+use Rattle.mk_sets.specs.Sets.{VarSet, is_member}
+use Rattle.mk_net.specs.Bounds.{max_variables}
 use Rattle.mk_net.specs.Zeros.{HasNoZeros}
 use Rattle.mk_net.specs.Additions.{CanExtend}
 use Rattle.mk_net.specs.declared.addition.Addition.{Addition as Extension}

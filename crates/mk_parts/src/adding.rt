@@ -17,6 +17,7 @@ use mk_engine::Engine;
 use mk_file::MarketFile;
 use mk_history::AddedQuestion;
 use mk_net::NoMemory;
+use mk_net::limits::{MAX_CLIQUES, MAX_VARIABLES};
 use mk_record::Journal;
 use mk_replay::{assets_of_each, engine_after, rows_after};
 use mk_semiring::{MinProd, SumProd};
@@ -35,7 +36,7 @@ pub struct Regrown<P: Engine<SumProd>, A: Engine<MinProd>> {
 }
 
 /// The most cliques of a tree: those of a file, and one for each question that is added.
-const MAX_CLIQUES: u32 = 511;
+const MAX_TREE_CLIQUES: u32 = MAX_CLIQUES + MAX_VARIABLES - 1;
 
 /// The parts of a market with a question that nothing refuses: engines, and each user's assets, are
 /// made anew of the journal's entries. It takes all memory that the question needs.
@@ -81,7 +82,7 @@ fn longer_file(
     requires { CanFollow file.now (addition_of question.now) }
     ensures { IfOk result (λ longer. IsLonger file.now (addition_of question.now) longer) }
 {
-    if file.tree.cliques() >= MAX_CLIQUES {
+    if file.tree.cliques() >= MAX_TREE_CLIQUES {
         return Err(NoMemory);
     }
     let net = file.net.extended(alloc, &question.addition)?;

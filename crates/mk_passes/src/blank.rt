@@ -11,17 +11,11 @@ ghost use Rattle.mk_passes.specs.Blank.{one_digits, one_exponent, filled};
 ghost use Rattle.mk_passes.specs.Parts.{AreBlankOrFull, AreHeld, HaveRoom, IsChanged, IsTimesCell, StandListed};
 ghost use Rattle.mk_scope.specs.Runs.{runs_of};
 
-use crate::blocks::{plus_at, put_sums};
+use crate::blocks::{BLOCK, FEW, plus_at, put_sums};
 use crate::columns::{Columns, Lists};
 use crate::made::First;
 use mk_cell::Cell;
 use mk_semiring::Semiring;
-
-/// The ones of a short list, whose arrays cost little to write.
-const FEW: usize = 8;
-
-/// The ones that are added at a time.
-const BLOCK: usize = 64;
 
 /// The cell of 1 under no shift.
 #[inline]

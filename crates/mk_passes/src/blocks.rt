@@ -15,10 +15,10 @@ use mk_cell::Cell;
 use mk_semiring::Semiring;
 
 /// The cells of a short list, which are gathered in arrays that cost little to clear.
-const FEW: usize = 8;
+pub(crate) const FEW: usize = 8;
 
 /// The cells of a block, and the blocks of a list.
-const BLOCK: usize = 64;
+pub(crate) const BLOCK: usize = 64;
 
 /// What makes the plus of the runs of cells that begin so far from a cell's base.
 #[derive(Clone, Copy)]

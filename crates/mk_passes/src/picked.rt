@@ -9,11 +9,9 @@ ghost use Rattle.mk_scope.specs.Cells.{values_at};
 ghost use Rattle.mk_passes.specs.Parts.{AreUnitCells};
 
 use mk_cell::Cell;
+use mk_net::limits::RATIO_PLACES;
 use mk_net::{Network, Ratio};
 use mk_scope::Scope;
-
-/// The places of two by which the units of a ratio are shifted.
-pub const RATIO_SHIFT: u32 = 40;
 
 /// The cells of the units of a ratio, by the value of its variable.
 #[derive(Clone, Copy)]
@@ -29,7 +27,7 @@ pub(crate) fn unit_cells(ratio: &Ratio) -> UnitCells
     let mut digits = [0u64; 16];
     let mut exponents = [0u32; 16];
     for value in 0..ratio.factors.len() {
-        let cell = Cell::of_whole(ratio.factors[value], RATIO_SHIFT);
+        let cell = Cell::of_whole(ratio.factors[value], RATIO_PLACES);
         digits[value] = cell.digits;
         exponents[value] = cell.exponent;
     }

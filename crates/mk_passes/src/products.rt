@@ -8,16 +8,10 @@ ghost use Rattle.mk_passes.specs.Blank.{one_digits, one_exponent, filled};
 ghost use Rattle.mk_passes.specs.Parts.{AreBlankOrFull, HaveRoom, IsPlusOfPairs};
 ghost use Rattle.mk_scope.specs.Runs.{cells_at};
 
-use crate::blocks::block_of;
+use crate::blocks::{BLOCK, FEW, block_of};
 use crate::columns::Columns;
 use mk_cell::{Cell, first_places};
 use mk_semiring::Semiring;
-
-/// The cells of a short list, which are gathered in arrays that cost little to clear.
-const FEW: usize = 8;
-
-/// The cells of a block, and the blocks of a list.
-const BLOCK: usize = 64;
 
 /// The plus of the products of the cells that lie so far from a base by the message's cells that have their values. A blank
 /// table is not read.

@@ -7,9 +7,7 @@ ghost use Rattle.mk_quote.specs.Bounds.{hit_side, miss_side, Allows, Limit, limi
 
 use crate::SideBounds;
 use mk_enclose::{Enclosure, Factor};
-
-/// The parts in which a share is given.
-const MILLION: u32 = 1_000_000;
+use mk_net::limits::MILLION;
 
 /// Bounds on what decides an edit of a question: the weight of the states where its condition and its target hold, of
 /// those where the condition holds and the target does not, and of both together; and the user's least factor over the

@@ -4,9 +4,7 @@ ghost use Rattle.std.specs.Prelude.{◌≤◌, ◌^◌, ◌<◌};
 use crate::SideBounds;
 use crate::interval::Bound;
 use mk_enclose::Factor;
-
-/// The greatest share.
-const LAST: u64 = 999_999;
+use mk_net::limits::MAX_SHARE;
 
 /// The most units that a guess begins with. A factor of `2^-6` and more bears fewer.
 const MOST_UNITS: u128 = (1 << 46) - 1;
@@ -20,7 +18,7 @@ impl SideBounds {
         match bound {
             Bound::Borne => self.share_for(least_borne(&self.factor)),
             // Units are too many only at prices below one in `2^23`.
-            Bound::TooMany => LAST as u32,
+            Bound::TooMany => MAX_SHARE,
         }
     }
 
@@ -36,8 +34,8 @@ impl SideBounds {
             .hi()
             .div_ceil(units * 15_625, &self.whole.lo(), 1 << 20);
         match share {
-            Some(fine) => fine.div_ceil(1 << 14).clamp(1, LAST) as u32,
-            None => LAST as u32,
+            Some(fine) => fine.div_ceil(1 << 14).clamp(1, MAX_SHARE as u64) as u32,
+            None => MAX_SHARE,
         }
     }
 }

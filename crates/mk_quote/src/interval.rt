@@ -8,9 +8,7 @@ ghost use Rattle.mk_quote.specs.inner.Reached.{Reaches, HoldsFirst};
 
 use crate::SideBounds;
 use crate::side::bears;
-
-/// The parts that make a whole: one more than the greatest share.
-const MILLION: u32 = 1_000_000;
+use mk_net::limits::MILLION;
 
 /// The least number of units that cannot be written.
 const TOO_MANY: u64 = 1 << 63;

@@ -5,12 +5,9 @@ ghost use Rattle.mk_enclose.specs.Factor.{paid_in, taken_out};
 ghost use Rattle.mk_quote.specs.Sides.{ratio_for, Bears, Serves};
 
 use mk_enclose::{Enclosure, Factor};
-
-/// The units of a ratio that leaves a weight as it was.
-const UNIT: u64 = 1 << 40;
+use mk_net::limits::{MILLION, RATIO_UNIT};
 
 /// The parts that a share is given in.
-const MILLION: u64 = 1_000_000;
 
 /// Bounds on one side of a question: on the weight of its states, on the weight of all states where the condition
 /// holds, and on the least factor of the user over its states.
@@ -30,7 +27,7 @@ impl SideBounds {
     {
         self.whole
             .lo()
-            .div_floor(x as u64 * UNIT, &self.part.hi(), MILLION)
+            .div_floor(x as u64 * RATIO_UNIT, &self.part.hi(), MILLION as u64)
     }
 
     /// The same units where one more trade of them leaves the user's factor at least one, judged at the lower end of

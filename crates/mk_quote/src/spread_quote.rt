@@ -5,9 +5,7 @@ ghost use Rattle.mk_quote.specs.Values.{value_interval, value_ratio};
 
 use crate::{SideBounds, SpreadBounds, SpreadQuestion};
 use arrayvec::ArrayVec;
-
-/// The units of a ratio that leaves a weight as it was.
-const UNIT: u64 = 1 << 40;
+use mk_net::limits::RATIO_UNIT;
 
 /// For each value of a variable the least and the greatest share, in parts in a million, that an edit may set: `(0, 0)`
 /// for one that cannot come.
@@ -155,7 +153,7 @@ fn units_of(value: &Option<SideBounds>, x: u32) -> Option<u64>
 {
     match value {
         Some(side) => side.judge_share(x),
-        None if x == 0 => Some(UNIT),
+        None if x == 0 => Some(RATIO_UNIT),
         None => None,
     }
 }

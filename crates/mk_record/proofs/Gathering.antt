@@ -12,9 +12,9 @@ use Rattle.mk_net.specs.Events.{speaks_of, AreApart}
 use Rattle.mk_net.specs.Firsts.{fault_if, or_else}
 use Rattle.mk_net.specs.Network.{Variable}
 use Rattle.mk_net.specs.Named.{pair_named, variable_at, variable_named}
-use Rattle.mk_net.specs.Texts.{same_text}
+use Rattle.mk_names.specs.Texts.{same_text}
 use Rattle.mk_net.proofs.Named.{pair_variable_in_range, pair_value_in_range}
-use Rattle.mk_net.proofs.SameText.{same_text_of_equal, equal_of_same_text}
+use Rattle.mk_names.proofs.SameText.{same_text_of_equal, equal_of_same_text}
 use Rattle.mk_states.specs.OfNetwork.{IsPairOf}
 use Rattle.mk_reply.specs.declared.refusal.Refusal.{Refusal}
 use Rattle.mk_reply.specs.declared.refusal.Refusal.TheVariants.{Unknown, Twice}

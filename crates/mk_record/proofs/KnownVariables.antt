@@ -9,8 +9,8 @@ use Rattle.std.proofs.lemmas.List.Quantifiers.{position-Some}
 use Rattle.std.proofs.lemmas.Option.{slice_get_past, slice_get-get_or}
 use Rattle.mk_net.specs.Network.{Variable}
 use Rattle.mk_net.specs.Named.{nobody, variable_at, variable_named}
-use Rattle.mk_net.specs.Texts.{same_text}
-use Rattle.mk_net.proofs.SameText.{equal_of_same_text}
+use Rattle.mk_names.specs.Texts.{same_text}
+use Rattle.mk_names.proofs.SameText.{equal_of_same_text}
 
 -- a number with its variable
 abbrev pub numbered_at : List Variable → ℕ → ℕ × Variable

@@ -14,7 +14,8 @@ ghost use Rattle.mk_reply.specs.declared.refusal.Refusal.TheVariants.{Unknown};
 ghost use Rattle.mk_record.specs.Refused.{refusal_in};
 ghost use Rattle.mk_record.specs.inner.Gathered.{IsGathered};
 
-use mk_net::{Event, Name, Network, Pair, PairText, Question, QuestionText};
+use mk_names::Name;
+use mk_net::{Event, Network, Pair, PairText, Question, QuestionText};
 use mk_quote::SpreadQuestion;
 use mk_reply::Refusal;
 

@@ -3,8 +3,7 @@
 ghost use Rattle.std.specs.Prelude.{◌≡◌, ◌+◌, ◌<◌, ◌≤◌, [], ◌∷◌, ◌++◌, false, length, map, IfOk};
 ghost use Rattle.std.specs.Prelude.{take, get_or};
 ghost use Rattle.std.specs.List.{count_by};
-ghost use Rattle.mk_net.specs.Bounds.{max_users, max_transfers, max_market_trades};
-ghost use Rattle.mk_sets.specs.Sets.{max_variables};
+ghost use Rattle.mk_net.specs.Bounds.{max_variables, max_users, max_transfers, max_market_trades};
 ghost use Rattle.mk_net.specs.Trades.{trade_ratio};
 ghost use Rattle.mk_exact.specs.History.{Join, Deposit, Withdraw, Trade, Resolve, Settle, Add};
 ghost use Rattle.mk_exact.specs.History.{users, trades as trades_in, resolutions, additions};
@@ -14,12 +13,11 @@ ghost use Rattle.mk_history.specs.Histories.{max_additions};
 ghost use Rattle.mk_rules.specs.Refusals as rules;
 
 use mk_history::{AddedQuestion, Entry, History, Limits, Payout};
-use mk_net::{Name, NoMemory, Pair, Ratio};
+use mk_names::Name;
+use mk_net::limits::MAX_VARIABLES;
+use mk_net::{NoMemory, Pair, Ratio};
 use std::alloc::Global;
 use std::marker::Model;
-
-/// The most variables of a market, each of which is resolved once.
-const MAX_VARIABLES: usize = 256;
 
 /// The accepted changes in order, with what is counted of them. All memory is taken at the start.
 #[derive(Drop)]
@@ -67,7 +65,7 @@ impl Journal {
         }) }
     {
         let accepted = History::start(alloc, limits)?;
-        let known = Vec::with_capacity(alloc, MAX_VARIABLES)?;
+        let known = Vec::with_capacity(alloc, MAX_VARIABLES as usize)?;
         Ok(Journal {
             accepted,
             known,

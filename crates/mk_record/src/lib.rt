@@ -15,11 +15,9 @@ pub use asking::{ask, ask_spread, known};
 pub use journal::Journal;
 pub use last_quote::LastQuote;
 pub use refusals::{
-    MAX_SHARE, not_settled, plain_price, refuse_edit, refuse_if, refuse_limits, refuse_paid,
-    refuse_price, refuse_resolve, refuse_settle, refuse_transfer, refuse_user, refuse_worst,
+    not_settled, plain_price, refuse_edit, refuse_if, refuse_limits, refuse_paid, refuse_price,
+    refuse_resolve, refuse_settle, refuse_transfer, refuse_user, refuse_worst,
 };
-pub use refusing_spreads::{
-    MILLION, all_in_range, is_million, refuse_bounds, refuse_prices, refuse_spread,
-};
+pub use refusing_spreads::{all_in_range, is_million, refuse_bounds, refuse_prices, refuse_spread};
 pub use requests::{EditWish, Request, SpreadRequest, SpreadWish};
 pub use users::{Member, Users};

@@ -23,16 +23,12 @@ use crate::requests::{EditWish, Request};
 use crate::users::Users;
 use mk_engine::Engine;
 use mk_file::MarketFile;
-use mk_net::{Event, Name, Network, Pair, PairText, Question, QuestionText};
+use mk_names::Name;
+use mk_net::limits::{MAX_SHARE, MAX_TRANSFER_BITS};
+use mk_net::{Event, Network, Pair, PairText, Question, QuestionText};
 use mk_reply::Refusal;
 use mk_semiring::MinProd;
 use mk_tree::Tree;
-
-/// The most bits of a deposit or a withdrawal.
-const MAX_TRANSFER_BITS: u32 = 1_000;
-
-/// The most millionths to which a price may be moved.
-pub const MAX_SHARE: u32 = 999_999;
 
 /// What `user` is refused for: a settlement, a user of the name, and as many users as a market holds.
 pub fn refuse_user<A: Engine<MinProd>>(

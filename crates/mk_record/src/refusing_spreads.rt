@@ -21,20 +21,18 @@ ghost use Rattle.mk_record.specs.Refused.{refusal_in, IsUser, IsSpreadQuestionFo
 use crate::asking::ask_spread;
 use crate::journal::Journal;
 use crate::refusals::{
-    MAX_SHARE, agrees, find_user, home_in, not_resolved, not_settled, not_stale, refuse_if,
-    room_for_trade,
+    agrees, find_user, home_in, not_resolved, not_settled, not_stale, refuse_if, room_for_trade,
 };
 use crate::requests::{SpreadRequest, SpreadWish};
 use crate::users::Users;
 use mk_engine::Engine;
 use mk_file::MarketFile;
-use mk_net::{Event, Name, Network, Pair, PairText};
+use mk_names::Name;
+use mk_net::limits::{MAX_SHARE, MILLION};
+use mk_net::{Event, Network, Pair, PairText};
 use mk_quote::SpreadQuestion;
 use mk_reply::Refusal;
 use mk_semiring::MinProd;
-
-/// The sum of the shares of a whole distribution.
-pub const MILLION: u32 = 1_000_000;
 
 /// What `bounds` and `position` are refused for by the record: a settlement, an unknown user, a
 /// variable that is unknown, a pair of the condition that is, a variable that occurs twice, one

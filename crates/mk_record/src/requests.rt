@@ -1,7 +1,8 @@
 //! Commands about a question: what they wish for in words, and what the refusals found of them in
 //! numbers.
 
-use mk_net::{Name, PairText, Question, QuestionText};
+use mk_names::Name;
+use mk_net::{PairText, Question, QuestionText};
 use mk_quote::SpreadQuestion;
 
 /// A user's question that the record does not refuse, and its home: the clique in which it is

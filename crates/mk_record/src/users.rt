@@ -3,14 +3,15 @@
 ghost use Rattle.std.specs.Prelude.{◌≡◌, ◌<◌, ◌≤◌, [], ◌∷◌, ◌++◌, false, length, position, is_some, Some, IfSome, OnOk, OnErr, slice_get, option_copied};
 ghost use Rattle.std.specs.List.{list_any};
 ghost use Rattle.mk_net.specs.Bounds.{max_users};
-ghost use Rattle.mk_net.specs.Texts.{same_text};
+ghost use Rattle.mk_names.specs.Texts.{same_text};
 ghost use Rattle.mk_record.specs.Members.{new_member, names_of, assets_of, quotes_of, with_quote};
 
 use crate::last_quote::LastQuote;
 use indexmap::IndexSet;
 use mk_assets::Assets;
 use mk_engine::Engine;
-use mk_net::{Name, NoMemory};
+use mk_names::Name;
+use mk_net::NoMemory;
 use mk_semiring::MinProd;
 use std::alloc::Global;
 use std::marker::Model;

@@ -1,7 +1,6 @@
 //! Payments by rule, from the entries of a history alone.
 ghost use Rattle.std.specs.Prelude.{◌≡◌, ◌≤◌, List, [], ◌∷◌, length, map, vec_capacity};
-ghost use Rattle.mk_net.specs.Bounds.{max_points_per_bit};
-ghost use Rattle.mk_sets.specs.Sets.{max_variables};
+ghost use Rattle.mk_net.specs.Bounds.{max_variables, max_points_per_bit};
 ghost use Rattle.mk_net.specs.Network.{Variable, IsNetwork, sizes};
 ghost use Rattle.mk_net.specs.Trades.{trade_ratio};
 ghost use Rattle.mk_states.specs.States.{IsState, numbers_below};

@@ -10,8 +10,7 @@ use Rattle.mk_text.specs.Reading.{Read, both, behind, made, given, nothing, read
 use Rattle.mk_text.proofs.ReadingLaws.{Took, Reads, Spelled, BothFit, both_text, behind_text, both_reads, behind_reads, passed_reads, reads_same, spelled_by, spelled_alone, choose_takes, nothing_takes, made_last}
 use Rattle.mk_text.proofs.PartLaws.{EndsSeveral, name_reads, number_reads, short_reads, pair_reads, limits_reads, intervals_reads}
 use Rattle.mk_text.proofs.WordLemmas.{both_true}
-use Rattle.mk_net.specs.Bounds.{max_users}
-use Rattle.mk_sets.specs.Sets.{max_variables}
+use Rattle.mk_net.specs.Bounds.{max_variables, max_users}
 use Rattle.mk_text.specs.Numbers.{AreIntervals, intervals_text}
 use Rattle.mk_reply.specs.Refusals.{refusal_text, given_in, IsUsersLimit, IsRefusal}
 use Rattle.mk_reply.specs.Reading.{read_users_limit, read_width, not_added_forms, miscounted_forms}

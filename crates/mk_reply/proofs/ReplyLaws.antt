@@ -5,7 +5,7 @@ use Rattle.std.proofs.Common.{refl, sym, ap, ◌∙◌, subst, arith, lit≤, in
 use Rattle.std.proofs.lemmas.Option.{none-some, same_Some, option_and_then_some}
 use Rattle.std.proofs.lemmas.Bool.{eqb-true, eq-eqb, ltb-true, lt-ltb, leb-true, le-leb}
 use Rattle.mk_net.specs.Bounds.{max_users, max_payments}
-use Rattle.mk_net.specs.Name.{IsName}
+use Rattle.mk_names.specs.Name.{IsName}
 use Rattle.mk_text.specs.Joined.{items_text, spaced, AreSeveral}
 use Rattle.mk_text.specs.Numbers.{IsLong, IsNarrow, IsPrice, price_text, AreIntervals, intervals_text}
 use Rattle.mk_text.specs.Words.{after, EndsWord}

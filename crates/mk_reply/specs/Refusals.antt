@@ -1,9 +1,8 @@
 -- Refusals, and how they are written.
 use Rattle.std.specs.Prelude.{◌≡◌, ℕ, ◌≤◌, List, codes, decimal, ⊤, Option, option_map}
 use Rattle.arrayvec.specs.ArrayVec.{ArrayVec}
-use Rattle.mk_net.specs.Bounds.{max_users}
-use Rattle.mk_sets.specs.Sets.{max_variables}
-use Rattle.mk_net.specs.Name.{IsName}
+use Rattle.mk_net.specs.Bounds.{max_variables, max_users}
+use Rattle.mk_names.specs.Name.{IsName}
 use Rattle.mk_text.specs.Joined.{◌&◌}
 use Rattle.mk_text.specs.Numbers.{IsShort, IsLong, IsNarrow, AreLimits, limits_text, AreIntervals, intervals_text}
 use Rattle.mk_text.specs.Texts.{IsPairText, pair_text}

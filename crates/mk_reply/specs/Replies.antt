@@ -1,7 +1,7 @@
 -- Replies, and how they are written.
 use Rattle.std.specs.Prelude.{◌≡◌, ◌≢◌, ℕ, ◌≤◌, ◌<◌, List, ◌++◌, length, codes, decimal, All}
 use Rattle.mk_net.specs.Bounds.{max_users, max_payments}
-use Rattle.mk_net.specs.Name.{IsName}
+use Rattle.mk_names.specs.Name.{IsName}
 use Rattle.mk_text.specs.Joined.{◌&◌, items_text, spaced, AreSeveral}
 use Rattle.mk_text.specs.Numbers.{IsLong, IsNarrow, IsPrice, price_text, range_text, AreLimits, limits_text, AreIntervals, intervals_text}
 use Rattle.mk_text.specs.Numbers.{ArePrices, prices_text, AreEnds, ends_text}

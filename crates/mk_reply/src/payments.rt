@@ -4,12 +4,11 @@ ghost use Rattle.std.specs.Prelude.{◌≡◌, ◌<◌, ◌≤◌, [], ◌∷◌
 ghost use Rattle.std.specs.Cmp.Lexicographic.{pointwise, lists_per};
 ghost use Rattle.mk_net.specs.Bounds.{max_payments};
 
-use mk_net::{Name, NoMemory};
+use mk_names::Name;
+use mk_net::NoMemory;
+use mk_net::limits::MAX_PAYMENTS;
 use std::alloc::Global;
 use std::marker::Model;
-
-/// The most payments that a settlement lists.
-const MAX_PAYMENTS: usize = 256;
 
 /// What a user is paid at the end: the low end of the interval that holds the cash of the user's factor, in points.
 #[derive(Clone, Copy, Debug, Default, PartialEq, Eq)]
@@ -43,7 +42,7 @@ impl Payments {
     pub fn start(alloc: Global) -> Result<Payments, NoMemory>
         ensures { IfOk result (λ payments. payments ≡ []) }
     {
-        let rows = Vec::with_capacity(alloc, MAX_PAYMENTS)?;
+        let rows = Vec::with_capacity(alloc, MAX_PAYMENTS as usize)?;
         Ok(Payments { rows })
     }
 

@@ -15,7 +15,8 @@ use crate::payments::Payment;
 use crate::refusal::{Intervals, Refusal};
 use crate::reply::Reply;
 use arrayvec::ArrayString;
-use mk_net::{Name, PairText};
+use mk_names::Name;
+use mk_net::PairText;
 use mk_text::{
     put_all_ends, put_all_prices, put_intervals, put_limits, put_name, put_number, put_pair,
     put_price, put_range, put_units,

@@ -14,7 +14,9 @@ use crate::payments::{Payment, Payments};
 use crate::read_refusal::{long, narrow, refusal};
 use crate::reply::Reply;
 use crate::unread::Unread;
-use mk_net::{Name, NoMemory};
+use mk_names::Name;
+use mk_net::NoMemory;
+use mk_net::limits::{MAX_PAYMENTS, MAX_USERS};
 use mk_text::{Item, Reader, intervals, several};
 use std::alloc::Global;
 
@@ -333,7 +335,7 @@ fn many_users(reader: &mut Reader) -> Option<u32>
     ensures { Finds result reader.new (read_many_users reader.old) }
 {
     let users = narrow(reader)?;
-    if 256 < users && users <= 65_536 {
+    if MAX_PAYMENTS < users && users <= MAX_USERS {
         Some(users)
     } else {
         None

@@ -8,6 +8,7 @@ ghost use Rattle.mk_reply.specs.Reading.{read_stale, read_width};
 ghost use Rattle.mk_reply.specs.Reading.{read_spread_out, read_not_added, read_miscounted};
 
 use crate::refusal::Refusal;
+use mk_net::limits::{MAX_USERS, MAX_VARIABLES};
 use mk_text::{Item, Reader, intervals};
 
 /// What follows the word `refused`.
@@ -216,7 +217,7 @@ fn users_limit(reader: &mut Reader) -> Option<u32>
     ensures { Finds result reader.new (read_users_limit reader.old) }
 {
     let held = narrow(reader)?;
-    if 1 <= held && held <= 65_536 {
+    if 1 <= held && held <= MAX_USERS {
         Some(held)
     } else {
         None
@@ -229,7 +230,11 @@ fn held(reader: &mut Reader) -> Option<u32>
     ensures { Finds result reader.new (read_held reader.old) }
 {
     let held = narrow(reader)?;
-    if held == 256 { Some(held) } else { None }
+    if held == MAX_VARIABLES {
+        Some(held)
+    } else {
+        None
+    }
 }
 
 /// A number below 2^63.

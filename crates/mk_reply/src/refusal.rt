@@ -1,7 +1,8 @@
 //! Why a line is refused.
 
 use arrayvec::ArrayVec;
-use mk_net::{Name, PairText};
+use mk_names::Name;
+use mk_net::PairText;
 
 /// For each value of a variable, the least and the greatest millionths to which its price may be moved.
 pub type Intervals = ArrayVec<(u32, u32), 16>;

@@ -3,7 +3,8 @@
 use crate::payments::{Payment, Payments};
 use crate::refusal::{Intervals, Refusal};
 use arrayvec::ArrayVec;
-use mk_net::{Name, PairText};
+use mk_names::Name;
+use mk_net::PairText;
 
 /// For each value of a variable, the two ends of an interval.
 pub type Spans = ArrayVec<(u64, u64), 16>;

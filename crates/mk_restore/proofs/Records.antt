@@ -10,7 +10,7 @@ use Rattle.std.proofs.lemmas.Fmt.{decimal_is_IsNumeral}
 use Rattle.std.proofs.lemmas.List.Elements.{recursion_from_All, All-from_recursion}
 use Rattle.std.proofs.lemmas.List.Folds.{list_all-append}
 use Rattle.mk_net.specs.Bounds.{max_values}
-use Rattle.mk_net.specs.Name.{IsName, is_name_byte}
+use Rattle.mk_names.specs.Name.{IsName, is_name_byte}
 use Rattle.mk_net.specs.declared.words.PairText.{PairText}
 use Rattle.mk_net.specs.declared.words.QuestionText.{QuestionText}
 use Rattle.mk_text.specs.Joined.{◌&◌, items_text, spaced, AreSeveral}

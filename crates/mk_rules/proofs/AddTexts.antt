@@ -5,7 +5,7 @@ use Rattle.std.specs.Prelude.{◌==◌, option_map, All}
 use Rattle.std.specs.List.{AllByRecursion, enumerate_from}
 use Rattle.std.proofs.lemmas.List.Elements.{recursion_from_All}
 use Rattle.std.proofs.lemmas.List.Sums.{sum_by-le}
-use Rattle.mk_net.specs.Name.{IsName}
+use Rattle.mk_names.specs.Name.{IsName}
 use Rattle.mk_states.proofs.Sums.{each_weaker, each_both, each-append, each-flat_map}
 use Rattle.mk_exact.specs.History.{Entry}
 use Rattle.mk_exact.specs.Market.{Market}

@@ -13,12 +13,11 @@ use Rattle.std.proofs.lemmas.Bool.{false_from_ne_true, both_ways}
 use Rattle.std.proofs.lemmas.List.{length_push}
 use Rattle.std.proofs.lemmas.List.Elements.{All-from_recursion}
 use Rattle.std.proofs.lemmas.List.Sums.{sum_by_push}
-use Rattle.mk_net.specs.Bounds.{max_clique_cells, max_cells, million}
-use Rattle.mk_sets.specs.Sets.{max_variables}
+use Rattle.mk_net.specs.Bounds.{max_variables, max_clique_cells, max_cells, million}
 use Rattle.mk_net.specs.Network.{Variable, IsNetwork, names, sizes, choices}
 use Rattle.mk_net.specs.Zeros.{HasNoZeros}
-use Rattle.mk_net.specs.Texts.{same_text}
-use Rattle.mk_net.specs.inner.TextLaws.{equal_of_same_text}
+use Rattle.mk_names.specs.Texts.{same_text}
+use Rattle.mk_names.specs.inner.TextLaws.{equal_of_same_text}
 use Rattle.mk_net.specs.Additions.{CanExtend}
 use Rattle.mk_net.specs.declared.addition.Addition.{Addition as Extension}
 use Rattle.mk_net.proofs.Networks.{two_values}

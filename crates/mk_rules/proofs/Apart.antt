@@ -9,8 +9,8 @@ use Rattle.mk_net.specs.declared.words.QuestionText.{QuestionText}
 use Rattle.mk_net.specs.Events.{speaks_of, AreApart}
 use Rattle.mk_net.specs.Network.{Variable}
 use Rattle.mk_net.specs.Named.{pair_named, variable_at}
-use Rattle.mk_net.specs.Texts.{same_text}
-use Rattle.mk_net.specs.inner.TextLaws.{same_text_of_equal}
+use Rattle.mk_names.specs.Texts.{same_text}
+use Rattle.mk_names.specs.inner.TextLaws.{same_text_of_equal}
 use Rattle.mk_net.proofs.Named.{pair_variable_name}
 use Rattle.mk_rules.specs.Refusals.{pairs_of, names_in, known_pairs, first_repeat, twice}
 use Rattle.mk_rules.proofs.Unrefused.{not_mapped}

@@ -5,9 +5,9 @@ use Rattle.std.specs.List.{AllByRecursion, count_by, list_any}
 use Rattle.std.proofs.lemmas.List.Sums.{sum_by-append}
 use Rattle.std.proofs.lemmas.List.Quantifiers.{all_pairs_push}
 use Rattle.mk_net.specs.Bounds.{million, max_market_trades, max_transfers, number_limit}
-use Rattle.mk_net.specs.Name.{IsName}
-use Rattle.mk_net.specs.Texts.{same_text}
-use Rattle.mk_net.specs.inner.TextLaws.{same_text_of_equal}
+use Rattle.mk_names.specs.Name.{IsName}
+use Rattle.mk_names.specs.Texts.{same_text}
+use Rattle.mk_names.specs.inner.TextLaws.{same_text_of_equal}
 use Rattle.mk_net.specs.Asked.{TradeRatio}
 use Rattle.mk_net.proofs.Taken.{any_at}
 use Rattle.mk_net.specs.Network.{AreDistinct}

@@ -4,8 +4,8 @@ use Rattle.std.proofs.Common.{◌≡◌, ℕ, Bool, true, false, cond, List, [],
 use Rattle.std.proofs.Common.{Option, Some, None, IfSome, refl, arith}
 use Rattle.std.specs.Prelude.{option_map, find}
 use Rattle.std.specs.List.{AllByRecursion, list_any}
-use Rattle.mk_net.specs.Name.{IsName}
-use Rattle.mk_net.specs.Texts.{same_text}
+use Rattle.mk_names.specs.Name.{IsName}
+use Rattle.mk_names.specs.Texts.{same_text}
 use Rattle.mk_net.specs.Firsts.{fault_if, first_of}
 use Rattle.mk_text.specs.Numbers.{IsShort}
 use Rattle.mk_reply.specs.Refusals.{IsRefusal}

@@ -8,8 +8,8 @@ use Rattle.std.proofs.lemmas.Bool.{eq-eqb, eqb-true, or_right}
 use Rattle.std.proofs.lemmas.List.Elements.{All-from_recursion}
 use Rattle.mk_net.specs.Network.{Variable, names, AreDistinct}
 use Rattle.mk_net.specs.Named.{variable_named, variable_at}
-use Rattle.mk_net.specs.Texts.{same_text}
-use Rattle.mk_net.specs.inner.TextLaws.{same_text_of_equal, equal_of_same_text}
+use Rattle.mk_names.specs.Texts.{same_text}
+use Rattle.mk_names.specs.inner.TextLaws.{same_text_of_equal, equal_of_same_text}
 use Rattle.mk_rules.specs.Additions.{number_named}
 use Rattle.mk_rules.specs.Refusals.{first_repeat}
 use Rattle.mk_rules.proofs.Apart.{Occurs, occurs_longer, occurs_first, later_names}

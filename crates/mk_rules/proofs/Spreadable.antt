@@ -13,8 +13,8 @@ use Rattle.mk_net.specs.declared.words.QuestionText.{QuestionText}
 use Rattle.mk_net.specs.Events.{speaks_of, AreApart}
 use Rattle.mk_net.specs.Network.{Variable, sizes}
 use Rattle.mk_net.specs.Named.{nobody, pair_named, variable_named, variable_at}
-use Rattle.mk_net.specs.Texts.{same_text}
-use Rattle.mk_net.proofs.SameText.{equal_of_same_text}
+use Rattle.mk_names.specs.Texts.{same_text}
+use Rattle.mk_names.proofs.SameText.{equal_of_same_text}
 use Rattle.mk_net.proofs.Named.{pair_variable_name}
 use Rattle.mk_exact.specs.History.{Entry}
 use Rattle.mk_exact.specs.Proper.{IsProper}

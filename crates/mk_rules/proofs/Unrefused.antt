@@ -6,7 +6,7 @@ use Rattle.std.proofs.lemmas.Bool.{leb-true, and_parts, eqb-true, eq-eqb}
 use Rattle.mk_net.specs.declared.words.Pair.{Pair}
 use Rattle.mk_net.specs.declared.words.PairText.{PairText}
 use Rattle.mk_net.specs.declared.words.QuestionText.{QuestionText}
-use Rattle.mk_net.specs.Texts.{same_text}
+use Rattle.mk_names.specs.Texts.{same_text}
 use Rattle.mk_net.specs.Network.{Variable}
 use Rattle.mk_net.specs.Named.{pair_named, variable_named, value_named}
 use Rattle.mk_net.specs.Asked.{Asked}

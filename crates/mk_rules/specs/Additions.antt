@@ -3,9 +3,8 @@ use Rattle.std.specs.Prelude.{ℕ, ◌+◌, ◌-◌, List, [], ◌∷◌, ◌++�
 use Rattle.std.specs.Prelude.{slice_index_or, ◌==◌, ◌&&◌, ◌||◌, nat_le, nat_lt, if◌then◌else◌}
 use Rattle.std.specs.Prelude.{is_none, is_some, Option, option_map, find, filter}
 use Rattle.std.specs.List.{list_any, flat_map, filter_map, enumerate_from}
-use Rattle.mk_net.specs.Bounds.{max_clique_cells, max_cells, million}
-use Rattle.mk_sets.specs.Sets.{max_variables}
-use Rattle.mk_net.specs.Texts.{same_text}
+use Rattle.mk_net.specs.Bounds.{max_variables, max_clique_cells, max_cells, million}
+use Rattle.mk_names.specs.Texts.{same_text}
 use Rattle.mk_net.specs.Network.{Variable, sizes, choices}
 use Rattle.mk_net.specs.Named.{variable_named}
 use Rattle.mk_net.specs.Firsts.{fault_if}

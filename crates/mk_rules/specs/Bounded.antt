@@ -2,7 +2,7 @@
 use Rattle.std.specs.Prelude.{ℕ, ◌<◌, ◌≤◌, ⊤, List, length}
 use Rattle.std.specs.List.{AllByRecursion, count_by}
 use Rattle.mk_net.specs.Bounds.{max_transfer_bits, number_limit}
-use Rattle.mk_net.specs.Name.{IsName}
+use Rattle.mk_names.specs.Name.{IsName}
 use Rattle.mk_net.specs.Network.{AreDistinct}
 use Rattle.mk_exact.specs.History.{Entry, Join, Deposit, Withdraw, Trade, Resolve, Settle, Add, users, trades, is_transfer, is_settlement, payments}
 use Rattle.mk_exact.specs.Market.{Market}

@@ -1,8 +1,8 @@
 //! The scope of a table.
 
 ghost use Rattle.std.specs.Prelude.{◌≡◌, ℕ, ◌+◌, ◌<◌, ◌≤◌, ◌*◌, ◌/◌, ◌%◌, List, All, map, length, slice_index, true, false, IfOk};
-ghost use Rattle.mk_net.specs.Bounds.{max_clique_cells, max_values};
-ghost use Rattle.mk_sets.specs.Sets.{max_variables, is_member};
+ghost use Rattle.mk_net.specs.Bounds.{max_variables, max_clique_cells, max_values};
+ghost use Rattle.mk_sets.specs.Sets.{is_member};
 ghost use Rattle.mk_net.specs.Network.{sizes, IsNetwork};
 ghost use Rattle.mk_sums.specs.Cells.{keep, cells};
 ghost use Rattle.mk_sums.specs.Joint.{variables};

@@ -6,12 +6,10 @@ ghost use Rattle.mk_states.specs.States.{numbers_below};
 ghost use Rattle.mk_net.specs.Events.{IsEvent};
 ghost use Rattle.mk_scope.specs.inner.Strides.{repeated, lets};
 
+use mk_net::limits::MAX_CLIQUE_CELLS;
 use mk_net::{NoMemory, Pair};
 use std::alloc::Global;
 use std::marker::Model;
-
-/// The most cells of a table.
-const MAX_CELLS: usize = 4096;
 
 /// The numbers of some cells of a scope, with room for each cell of a table. No place of it is written
 /// before a list is that long.
@@ -39,7 +37,7 @@ impl CellList {
         ensures { IfOk result (λ list. list.items ≡ []) }
     {
         Ok(CellList {
-            cells: Vec::with_capacity(alloc, MAX_CELLS)?,
+            cells: Vec::with_capacity(alloc, MAX_CLIQUE_CELLS as usize)?,
             count: 0,
         })
     }

@@ -21,14 +21,14 @@ ghost use Rattle.mk_session.specs.inner.Loading.{IsTaken};
 use crate::answer::{Kept, serve_from};
 use crate::market::{TreeMarket, open};
 use crate::print::{LineBuffer, print_fault_line};
-use mk_file::{FileFault, MarketFile, read_market};
+use mk_file::{FileFault, MAX_FILE_BYTES, MarketFile, read_market};
 use mk_io::{InputFailed, Inputs, Sink, Status, write_all};
 use mk_journal::NoStore;
 use std::alloc::Global;
 use std::mem;
 
 /// One byte more than a market file may have.
-const READ_AT_MOST: usize = 1_048_577;
+const READ_AT_MOST: usize = MAX_FILE_BYTES + 1;
 
 /// The room for the bytes of a file, before it grows. Most market files have no more.
 const FIRST_ROOM: usize = 65_536;

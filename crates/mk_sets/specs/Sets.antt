@@ -1,10 +1,7 @@
 -- Sets of variables: lists of numbers in rising order.
 use Rattle.std.specs.Prelude.{◌≡◌, ℕ, List, [], filter, Bool, true, ◌||◌, ◌==◌}
 use Rattle.std.specs.List.{list_any, range_with_len}
-
--- the most variables of a network: a set has numbers below it
-abbrev pub max_variables : ℕ
-max_variables = 256
+use Rattle.mk_net.specs.Bounds.{max_variables}
 
 abbrev pub VarSet : Type 0
 VarSet = List ℕ

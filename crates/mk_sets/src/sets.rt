@@ -3,7 +3,8 @@
 ghost use Rattle.std.specs.Prelude.{◌≡◌, ℕ, ◌<◌, ◌≤◌, ◌&&◌, ◌||◌, ◌==◌, ◌↔◌, not, nat_eq, true, false, IsTrue, IfSome, IfNone};
 ghost use Rattle.std.specs.Cmp.{partial_equiv_from_equiv};
 ghost use Rattle.std.specs.Cmp.Lexicographic.{pointwise, nat_list_eq_equiv};
-ghost use Rattle.mk_sets.specs.Sets.{max_variables, is_member, IsSubset, no_variables, with_member};
+ghost use Rattle.mk_sets.specs.Sets.{is_member, IsSubset, no_variables, with_member};
+ghost use Rattle.mk_net.specs.Bounds.{max_variables};
 
 use std::marker::Model;
 

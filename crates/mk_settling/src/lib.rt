@@ -3,4 +3,4 @@
 
 mod payments;
 
-pub use payments::{MAX_LISTED, enter, list, pay_all_by_rule, tell};
+pub use payments::{enter, list, pay_all_by_rule, tell};

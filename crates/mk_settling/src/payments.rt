@@ -17,13 +17,11 @@ use mk_cash::Ledger;
 use mk_engine::Engine;
 use mk_file::MarketFile;
 use mk_history::Payout;
+use mk_net::limits::MAX_PAYMENTS;
 use mk_record::{Journal, Users};
 use mk_replay::{Till, outcome_of};
 use mk_reply::{Payment, Payments};
 use mk_semiring::MinProd;
-
-/// The most payments that the reply to a settlement lists.
-pub const MAX_LISTED: u32 = 256;
 
 /// Tells the payment to each user, in the order of joining.
 pub fn tell<A: Engine<MinProd>>(users: &Users<A>, rows: &[Payout], payments: &mut Payments)

@@ -14,8 +14,9 @@ ghost use Rattle.mk_table.specs.inner.Changes.{Fits, HasMade};
 use crate::changes::Change;
 use crate::scopes::Scopes;
 use crate::touched::{beside, is_untouched_by, put_either_within, put_within, take_either};
+use mk_net::limits::RATIO_PLACES;
 use mk_net::{Event, Pair};
-use mk_passes::{Columns, RATIO_SHIFT, append_until, one};
+use mk_passes::{Columns, append_until, one};
 use mk_scope::Places;
 
 /// Where the cells of a table stand.
@@ -314,7 +315,7 @@ impl Store {
         ensures either { IsEither (head_in self.old.heads.items k).touched (Some condition) (head_in self.new.heads.items k).touched }
     {
         let head = &mut self.heads[k];
-        head.shift += RATIO_SHIFT;
+        head.shift += RATIO_PLACES;
         take_either(&mut head.touched, &Some(condition));
     }
 

@@ -18,7 +18,7 @@ use Rattle.std.proofs.lemmas.Str.Parse.{digit_from_value}
 use Rattle.std.proofs.lemmas.Str.{IsUtf8-from_ascii}
 use Rattle.std.proofs.lemmas.Str.Ascii.{IsAscii-from_all}
 use Rattle.std.proofs.lemmas.List.Elements.{All-nil, All-cons}
-use Rattle.mk_net.specs.Name.{IsName, is_name_byte}
+use Rattle.mk_names.specs.Name.{IsName, is_name_byte}
 use Rattle.mk_text.specs.Numbers.{places}
 use Rattle.mk_text.specs.Reading.{number_written}
 use Rattle.mk_text.proofs.WordLemmas.{both_true}

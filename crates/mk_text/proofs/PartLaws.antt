@@ -9,7 +9,7 @@ use Rattle.std.proofs.lemmas.List.Elements.{All-nil, All-cons, All-head, All-tai
 use Rattle.std.proofs.lemmas.Bool.{leb-true, le-leb}
 use Rattle.std.proofs.lemmas.Bool.Decides.{nat_tests}
 use Rattle.std.proofs.lemmas.Str.Parse.{digit_from_value}
-use Rattle.mk_net.specs.Name.{IsName, is_name, is_name_byte, max_name_bytes, begins_with_letter}
+use Rattle.mk_names.specs.Name.{IsName, is_name, is_name_byte, max_name_bytes, begins_with_letter}
 use Rattle.mk_net.specs.declared.words.PairText.{PairText}
 use Rattle.mk_net.specs.declared.words.QuestionText.{QuestionText}
 use Rattle.mk_text.specs.Joined.{items_text, spaced, AreSeveral}

@@ -7,7 +7,7 @@ use Rattle.std.proofs.lemmas.List.{take-append-drop}
 use Rattle.std.proofs.lemmas.List.Sums.{prefix_len_is}
 use Rattle.std.proofs.lemmas.Option.{none-some, same_Some}
 use Rattle.std.proofs.lemmas.Bool.{eqb-true, eq-eqb, ne_eqb}
-use Rattle.mk_net.specs.Name.{is_name_byte}
+use Rattle.mk_names.specs.Name.{is_name_byte}
 use Rattle.mk_text.specs.Words.{word_len, word, behind_word, EndsWord, after}
 
 pub both_true : (p q : Bool) → p && q ≡ true → (p ≡ true) × (q ≡ true)

@@ -1,7 +1,7 @@
 -- Pairs and questions, and how they are written.
 use Rattle.std.specs.Prelude.{ℕ, ◌≤◌, List, [], ◌∷◌, length, codes, All}
 use Rattle.mk_net.specs.Bounds.{max_condition}
-use Rattle.mk_net.specs.Name.{IsName}
+use Rattle.mk_names.specs.Name.{IsName}
 use Rattle.mk_net.specs.declared.words.PairText.{PairText}
 use Rattle.mk_net.specs.declared.words.QuestionText.{QuestionText}
 use Rattle.mk_text.specs.Joined.{◌&◌, items_text}

@@ -1,7 +1,7 @@
 -- The words at the front of some bytes.
 use Rattle.std.specs.Prelude.{◌≡◌, ℕ, List, [], ◌∷◌, ◌++◌, take, drop, Bool, true, not, Option, Some, None, if◌then◌else◌, ◌==◌}
 use Rattle.std.specs.List.{prefix_len}
-use Rattle.mk_net.specs.Name.{is_name_byte}
+use Rattle.mk_names.specs.Name.{is_name_byte}
 
 -- how many letters, digits and underscores stand at the front
 unfoldable pub word_len : List ℕ → ℕ

@@ -6,9 +6,10 @@ ghost use Rattle.arrayvec.specs.ArrayString.{array_string_len};
 ghost use Rattle.mk_text.specs.Numbers.{places};
 ghost use Rattle.mk_text.specs.Reading.{number_written};
 
-use crate::writers::{UNITS, put_ten_places};
+use crate::writers::put_ten_places;
 use arrayvec::ArrayString;
 use itoa::Buffer;
+use mk_net::limits::PRICE_UNIT;
 use std::str;
 
 /// The number below a limit that has these digits, without leading zeros.
@@ -30,7 +31,7 @@ pub fn ten_places_of(word: &[u8]) -> Option<u64>
     ensures below { IfSome result (λ n. n < 10 ^ 10) }
 {
     let number = value_of(word)?;
-    if number >= UNITS {
+    if number >= PRICE_UNIT {
         return None;
     }
     let mut written = ArrayString::<10>::new();

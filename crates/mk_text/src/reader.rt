@@ -11,9 +11,10 @@ ghost use Rattle.arrayvec.specs.ArrayVec.{array_vec_len};
 
 use crate::numbers::{number_of, ten_places_of};
 use crate::words::word_len;
-use crate::writers::UNITS;
 use arrayvec::ArrayVec;
-use mk_net::{Name, PairText, QuestionText};
+use mk_names::Name;
+use mk_net::limits::PRICE_UNIT;
+use mk_net::{PairText, QuestionText};
 use std::marker::Model;
 
 /// The bytes of a text that are not read yet. Reading goes forward alone: where a part is not found, and the answer is
@@ -163,8 +164,12 @@ impl<'a> Reader<'a> {
         let whole = self.number(2)?;
         self.expect(b".")?;
         let part = ten_places_of(self.word())?;
-        let price = whole * UNITS + part;
-        if price <= UNITS { Some(price) } else { None }
+        let price = whole * PRICE_UNIT + part;
+        if price <= PRICE_UNIT {
+            Some(price)
+        } else {
+            None
+        }
     }
 
     /// Two numbers below a limit with two points between them.

@@ -1,7 +1,7 @@
 //! Words: runs of letters, digits and underscores.
 
 ghost use Rattle.std.specs.Prelude.{◌≡◌, ◌≤◌, length};
-ghost use Rattle.mk_net.specs.Name as name;
+ghost use Rattle.mk_names.specs.Name as name;
 ghost use Rattle.mk_text.specs.Words.{word_len};
 
 /// How many letters, digits and underscores stand at the front.

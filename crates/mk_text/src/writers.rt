@@ -11,11 +11,10 @@ ghost use Rattle.mk_text.specs.Texts.{pair_text, condition_text, question_text};
 
 use arrayvec::ArrayString;
 use itoa::Buffer;
-use mk_net::{Name, PairText, QuestionText};
+use mk_names::Name;
+use mk_net::limits::PRICE_UNIT;
+use mk_net::{PairText, QuestionText};
 use std::str;
-
-/// How many units a price has to one point.
-pub const UNITS: u64 = 10_000_000_000;
 
 /// Writes a name, of at most 32 bytes.
 pub fn put_name<const N: usize>(out: &mut ArrayString<N>, name: &Name)
@@ -57,7 +56,7 @@ pub fn put_ten_places<const N: usize>(out: &mut ArrayString<N>, part: u64)
 {
     // A one in front keeps the zeros behind it.
     let mut buffer = Buffer::new();
-    let digits = buffer.format(UNITS + part);
+    let digits = buffer.format(PRICE_UNIT + part);
     out.push_str(&digits[1..]);
 }
 
@@ -114,9 +113,9 @@ pub fn put_price<const N: usize>(out: &mut ArrayString<N>, price: u64)
     ensures text { out.new.bytes ≡ out.old.bytes ++ price_text price }
     ensures growth { array_string_len out.new ≤ array_string_len out.old + 31 }
 {
-    put_number(out, price / UNITS);
+    put_number(out, price / PRICE_UNIT);
     out.push_str(".");
-    put_ten_places(out, price % UNITS);
+    put_ten_places(out, price % PRICE_UNIT);
 }
 
 /// Writes two numbers with two points between them, in at most 42 bytes.

@@ -8,7 +8,8 @@ use crate::names::{expect_none, expect_text, name};
 use arrayvec::{ArrayString, ArrayVec};
 use mk_addition::{AddText, text_length};
 use mk_command::{Command, CommandRef, Words, print_command, read_command};
-use mk_net::{Name, PairText, QuestionText, Row};
+use mk_names::Name;
+use mk_net::{PairText, QuestionText, Row};
 use std::process::Abort;
 
 const LONGEST_NAME: &[u8] = b"abcdefghijklmnopqrstuvwxyz_01234";

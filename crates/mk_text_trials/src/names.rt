@@ -1,6 +1,6 @@
 //! Names for trials, and what is printed.
 
-use mk_net::Name;
+use mk_names::Name;
 use std::process::Abort;
 
 /// The name that these bytes are.

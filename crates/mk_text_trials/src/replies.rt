@@ -1,6 +1,7 @@
 use crate::names::{expect_none, expect_text, name};
 use arrayvec::{ArrayString, ArrayVec};
-use mk_net::{Name, PairText};
+use mk_names::Name;
+use mk_net::PairText;
 use mk_reply::{
     Intervals, Payment, Payments, Refusal, Reply, Spans, Unread, print_reply, read_reply,
 };

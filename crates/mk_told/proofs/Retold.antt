@@ -4,9 +4,9 @@ use Rattle.std.specs.Prelude.{not, Some, slice_get, ◌↔◌, ◌&&◌, ◌+◌
 use Rattle.std.proofs.Common.{refl, sym, ap, ap₂, ◌∙◌, subst, arith, get_or, inl, inr}
 use Rattle.std.proofs.lemmas.Bool.{cases_eq}
 use Rattle.std.proofs.lemmas.List.{length-map}
-use Rattle.mk_net.specs.Texts.{same_text}
+use Rattle.mk_names.specs.Texts.{same_text}
 use Rattle.mk_net.specs.declared.words.PairText.{PairText}
-use Rattle.mk_net.specs.inner.TextLaws.{both, equal_of_same_text, same_text_of_equal}
+use Rattle.mk_names.specs.inner.TextLaws.{both, equal_of_same_text, same_text_of_equal}
 use Rattle.mk_record.specs.declared.users.Member.{Member}
 use Rattle.mk_record.specs.Members.{names_of}
 use Rattle.mk_reply.specs.declared.payments.Payment.{Payment}

@@ -2,12 +2,13 @@
 
 ghost use Rattle.std.specs.Prelude.{◌≡◌, ◌<◌, ◌≤◌, ◌↔◌, true, length, All};
 ghost use Rattle.mk_net.specs.Bounds.{max_values};
-ghost use Rattle.mk_net.specs.Name.{IsName};
+ghost use Rattle.mk_names.specs.Name.{IsName};
 ghost use Rattle.mk_text.specs.Numbers.{IsShort};
 ghost use Rattle.mk_addition.specs.Adds.{AreBetween, IsAddText};
 
 use mk_addition::AddText;
-use mk_net::{Name, Row};
+use mk_names::Name;
+use mk_net::Row;
 
 /// The least number with more than nine digits.
 const LONG: u32 = 1_000_000_000;

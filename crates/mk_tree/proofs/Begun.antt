@@ -6,7 +6,8 @@ use Rattle.std.proofs.Common.{get_or-set_other, get_or-set_same, if◌then◌els
 use Rattle.std.proofs.Math.Seq.{drop-cons, drop-length}
 use Rattle.std.proofs.lemmas.List.{get_or-replicate, drop_all, take_at, length-replicate}
 use Rattle.std.proofs.lemmas.Bool.{cases_eq, eq-eqb, ne_eqb}
-use Rattle.mk_sets.specs.Sets.{max_variables, VarSet, is_member}
+use Rattle.mk_sets.specs.Sets.{VarSet, is_member}
+use Rattle.mk_net.specs.Bounds.{max_variables}
 use Rattle.mk_tree.specs.inner.Starts.{AreStarts, first_holding}
 use Rattle.mk_tree.proofs.Cells.{IsFirstOf}
 

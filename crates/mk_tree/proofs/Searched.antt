@@ -9,7 +9,8 @@ use Rattle.std.proofs.lemmas.Bool.{and_parts, both_ways, cases_lt, lt-ltb, le-lt
 use Rattle.std.proofs.lemmas.List.{get_or_past, length-drop}
 use Rattle.std.proofs.lemmas.List.Sums.{prefix_len-le-length}
 use Rattle.mk_net.specs.declared.words.Pair.{Pair}
-use Rattle.mk_sets.specs.Sets.{max_variables, VarSet, is_member}
+use Rattle.mk_sets.specs.Sets.{VarSet, is_member}
+use Rattle.mk_net.specs.Bounds.{max_variables}
 use Rattle.mk_tree.specs.Given.{holds_event}
 use Rattle.mk_tree.specs.inner.Starts.{AreStarts, event_start}
 

@@ -2,8 +2,8 @@
 use Rattle.std.specs.Prelude.{◌≡◌, ℕ, ◌+◌, ◌-◌, ◌<◌, ◌≤◌, List, length, All, Bool, true, Option, option_map, slice_index, slice_index_or, position}
 use Rattle.std.specs.List.{list_all}
 use Rattle.mk_net.specs.declared.words.Pair.{Pair}
-use Rattle.mk_sets.specs.Sets.{max_variables, VarSet, is_member, no_variables}
-use Rattle.mk_net.specs.Bounds.{max_cliques}
+use Rattle.mk_sets.specs.Sets.{VarSet, is_member, no_variables}
+use Rattle.mk_net.specs.Bounds.{max_variables, max_cliques}
 use Rattle.mk_net.specs.Network.{Variable}
 use Rattle.mk_sums.specs.Trees.{Links, Joined}
 

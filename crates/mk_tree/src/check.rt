@@ -11,13 +11,8 @@ ghost use Rattle.mk_tree.specs.inner.Tops.{is_top};
 
 use crate::fault::TreeFault;
 use mk_net::Network;
+use mk_net::limits::{MAX_CELLS, MAX_CLIQUE_CELLS};
 use mk_sets::VarSet;
-
-/// The most cells of a clique.
-const MAX_CLIQUE: u32 = 4_096;
-
-/// The most cells of all cliques together.
-const MAX_TREE: u32 = 32_768;
 
 /// The first fault of a tree.
 pub fn find_fault(net: &Network, cliques: &[VarSet], links: &[u32]) -> Option<TreeFault>
@@ -121,7 +116,7 @@ fn first_too_large(net: &Network, cliques: &[VarSet]) -> Option<u32>
     let mut total = 0;
     for (place, clique) in cliques.iter().enumerate() {
         match cells(net, clique) {
-            Some(cells) if total + cells <= MAX_TREE => total += cells,
+            Some(cells) if total + cells <= MAX_CELLS => total += cells,
             _ => return Some(place as u32 + 1),
         }
     }
@@ -166,7 +161,7 @@ fn cells(net: &Network, clique: &VarSet) -> Option<u32>
     while let Some(variable) = left.first() {
         left = left.without(&VarSet::empty().with(variable));
         cells *= net.values(variable);
-        if cells > MAX_CLIQUE {
+        if cells > MAX_CLIQUE_CELLS {
             return None;
         }
     }

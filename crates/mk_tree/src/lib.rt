@@ -10,4 +10,4 @@ mod tree;
 pub use check::clique_cells;
 pub use fault::TreeFault;
 pub use laws::test_is_connected;
-pub use tree::Tree;
+pub use tree::{ROOT, Tree};

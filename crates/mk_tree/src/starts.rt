@@ -2,16 +2,15 @@
 
 ghost use Rattle.std.specs.Prelude.{◌≡◌, ℕ, ◌<◌, ◌≤◌, List, length, slice_index, position, IfOk};
 ghost use Rattle.std.specs.Prelude.{IfSome, if◌then◌else◌};
-ghost use Rattle.mk_sets.specs.Sets.{max_variables, is_member};
+ghost use Rattle.mk_sets.specs.Sets.{is_member};
+ghost use Rattle.mk_net.specs.Bounds.{max_variables};
 ghost use Rattle.mk_tree.specs.Given.{max_tree_cliques, holds_event};
 ghost use Rattle.mk_tree.specs.inner.Starts.{AreStarts, event_start};
 
 use mk_net::Pair;
+use mk_net::limits::MAX_VARIABLES;
 use mk_sets::VarSet;
 use std::alloc::{AllocError, Global};
-
-/// As many variables as a network may have.
-const VARIABLES: usize = 256;
 
 /// For each variable the place, counted from 0, of the first clique that holds it: the number of
 /// cliques where none does. It fails where memory is wanting.
@@ -19,7 +18,7 @@ pub(crate) fn find_starts(alloc: Global, cliques: &[VarSet]) -> Result<Vec<u32>,
     requires few { length cliques.now ≤ max_tree_cliques }
     ensures starts { IfOk result (λ starts. AreStarts cliques.now starts.items) }
 {
-    let mut starts = vec![in alloc; cliques.len() as u32; VARIABLES]?;
+    let mut starts = vec![in alloc; cliques.len() as u32; MAX_VARIABLES as usize]?;
     for place in (0..cliques.len()).rev() {
         begin_at(&mut starts, &cliques[place], place as u32);
     }

@@ -16,6 +16,9 @@ use mk_sets::VarSet;
 use std::alloc::Global;
 use std::marker::Model;
 
+/// The first clique of every tree, in which beliefs in no pair at all are asked.
+pub const ROOT: u32 = 1;
+
 /// A tree of cliques, each of which after the first is linked to an earlier one. Cliques are numbered from 1; clique 1
 /// is the root.
 #[derive(Drop)]

@@ -8,13 +8,10 @@ ghost use Rattle.mk_user_engine.specs.Grouped.{max_groups};
 ghost use Rattle.mk_user_engine.specs.GroupProducts.{named_by, AreListedBy, ArePlaces};
 
 use crate::names::{MAX_CELLS, Named, is_named};
-use crate::narrow::PlacedRatio;
+use crate::narrow::{MAX_TRADES, PlacedRatio};
 use crate::product::{UNIT_PLACES, units_in};
 use arrayvec::ArrayVec;
 use mk_cell::{Cell, least};
-
-/// The most trades.
-const MAX_TRADES: usize = 128;
 
 /// The least product in the cells that are asked for, and whether one of these meets the condition
 /// of a trade.

@@ -27,19 +27,20 @@ use crate::group_product::places_of;
 use crate::groups::{Groups, MAX_GROUPS};
 use crate::kept::{KeptLeast, keep_all, least_of};
 use arrayvec::ArrayVec;
+use mk_net::limits::MAX_VARIABLES;
 use mk_net::{Event, NoMemory, Pair, Ratio};
 use mk_scope::Scope;
 use mk_semiring::{Held, MinProd, Semiring};
 use std::alloc::Global;
 
 /// The most trades of the narrow form.
-const MAX_TRADES: usize = 128;
+pub(crate) const MAX_TRADES: usize = 128;
 
 /// The most cells times trades of a group that takes one trade more.
 const MAX_WORK: usize = 128;
 
 /// The most known pairs.
-const MAX_KNOWN: usize = 256;
+const MAX_KNOWN: usize = MAX_VARIABLES as usize;
 
 /// A ratio with its home.
 #[derive(Drop)]

@@ -16,10 +16,11 @@ ghost use Rattle.mk_user_engine.specs.Narrow.{HaveProducts, max_trades};
 use crate::names::{Named, is_named, value_in};
 use crate::narrow::PlacedRatio;
 use mk_cell::Cell;
+use mk_net::limits::RATIO_PLACES;
 use mk_net::{Pair, Ratio};
 
 /// The places of two in a unit.
-pub(crate) const UNIT_PLACES: u32 = 40;
+pub(crate) const UNIT_PLACES: u32 = RATIO_PLACES;
 
 /// Asks for those cells alone that give each named variable of some pairs its value.
 pub(crate) fn keep_pairs(asked: &mut [bool], names: &[Named], pairs: &[Pair])

@@ -1,8 +1,8 @@
 -- Payments to each user, one change of a history after another.
 use Rattle.std.proofs.Common.{◌≡◌, ℕ, zero, suc, ◌+◌, ◌<◌, ◌≤◌, ◌↔◌, List, [], ◌∷◌, length, map, drop, get_or, Bool, true, false, not, ◌==◌, refl, sym, ap, ap₂, subst, ◌∙◌, drop-cons, length-drop, arith}
 use Rattle.std.proofs.lemmas.Bool.{eqb-true, eq-eqb}
-use Rattle.mk_net.specs.Texts.{same_text}
-use Rattle.mk_net.specs.inner.TextLaws.{equal_of_same_text, same_text_of_equal}
+use Rattle.mk_names.specs.Texts.{same_text}
+use Rattle.mk_names.specs.inner.TextLaws.{equal_of_same_text, same_text_of_equal}
 use Rattle.mk_exact.specs.History as history
 use Rattle.mk_exact.specs.History.{users}
 use Rattle.mk_history.specs.declared.entry.Entry.{Entry}

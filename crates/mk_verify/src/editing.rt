@@ -15,7 +15,8 @@ use mk_judge::Judged;
 use mk_judge_quotes::{judge_edit, judge_told_limits};
 use mk_known::{Known, revision_of};
 use mk_market::Market;
-use mk_net::{Name, QuestionText};
+use mk_names::Name;
+use mk_net::QuestionText;
 use mk_reply::Reply;
 use mk_semiring::{MinProd, SumProd};
 

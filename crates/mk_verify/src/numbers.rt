@@ -16,7 +16,8 @@ use mk_evidence::{bound_evidence, price_evidence, withdrawal_evidence, worst_evi
 use mk_judge::{Judged, judge_price};
 use mk_judge_points::{judge_bound, judge_cash, judge_covered, judge_most};
 use mk_market::Market;
-use mk_net::{Name, QuestionText};
+use mk_names::Name;
+use mk_net::QuestionText;
 use mk_reply::{Refusal, Reply};
 use mk_semiring::{MinProd, SumProd};
 

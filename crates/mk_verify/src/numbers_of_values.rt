@@ -13,7 +13,8 @@ use mk_engine::TreeGraded;
 use mk_evidence::{position_evidence, prices_evidence};
 use mk_judge::Judged;
 use mk_market::Market;
-use mk_net::{Name, PairText};
+use mk_names::Name;
+use mk_net::PairText;
 use mk_reply::Reply;
 use mk_semiring::{MinProd, SumProd};
 

@@ -10,7 +10,8 @@ use mk_engine::Engine;
 use mk_evidence::{refused_addition, refused_deposit, refused_join, refused_resolution};
 use mk_judge::Judged;
 use mk_market::Market;
-use mk_net::{Name, PairText};
+use mk_names::Name;
+use mk_net::PairText;
 use mk_reply::{Refusal, Reply};
 use mk_semiring::{MinProd, SumProd};
 

@@ -16,7 +16,8 @@ use mk_judge::Judged;
 use mk_judge_quotes::{judge_spread, judge_told_bounds};
 use mk_known::{Known, revision_of};
 use mk_market::Market;
-use mk_net::{Name, PairText};
+use mk_names::Name;
+use mk_net::PairText;
 use mk_reply::Reply;
 use mk_semiring::{MinProd, SumProd};
 

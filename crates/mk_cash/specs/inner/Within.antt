@@ -2,8 +2,7 @@
 use Rattle.std.specs.Prelude.{◌≡◌, ℕ, ◌+◌, ◌-◌, ◌*◌, ◌^◌, ◌<◌, ◌≤◌}
 use Rattle.std.proofs.Common.{arith, le_refl, le_trans, lt_of_le_of_lt}
 use Rattle.std.proofs.Math.Nat.{mul-le-mul, mul-le-mul_left, mul_comm}
-use Rattle.mk_net.specs.Bounds.{million}
-use Rattle.mk_sets.specs.Sets.{max_variables}
+use Rattle.mk_net.specs.Bounds.{max_variables, million}
 use Rattle.mk_scaled.specs.Near.{IsNear, near_width}
 use Rattle.mk_scaled.specs.Range.{two_to, two_to-small, two_to-suc, two_to-mono, two_to-add, two_to-lt, pow_at_most}
 use Rattle.mk_enclose.specs.declared.factor.Factor.{Factor}

@@ -2,7 +2,7 @@
 use Rattle.std.specs.Prelude.{◌≡◌, ℕ, ◌<◌, List, length, map, Bool, true, ◌||◌, not, nat_lt, [], ◌∷◌, Option, option_map}
 use Rattle.std.specs.List.{list_all, position_or_len}
 use Rattle.mk_sets.specs.Sets.{VarSet, is_member, set_of}
-use Rattle.mk_net.specs.Texts.{same_text}
+use Rattle.mk_names.specs.Texts.{same_text}
 use Rattle.mk_net.specs.Network.{Variable}
 use Rattle.mk_net.specs.Firsts.{fault_if, first_of, first_in}
 use Rattle.mk_net.specs.Checked.{has_double, checked_network}

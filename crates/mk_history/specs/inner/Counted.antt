@@ -1,8 +1,7 @@
 -- How many changes of each kind a history may have, and its room.
 use Rattle.std.specs.Prelude.{◌≡◌, ℕ, ◌+◌, ◌*◌, ◌≤◌, List, length, map, All}
 use Rattle.std.specs.List.{count_by}
-use Rattle.mk_net.specs.Bounds.{max_users, max_transfers, max_market_trades}
-use Rattle.mk_sets.specs.Sets.{max_variables}
+use Rattle.mk_net.specs.Bounds.{max_variables, max_users, max_transfers, max_market_trades}
 use Rattle.mk_net.specs.Bounds.{max_condition, max_values}
 use Rattle.mk_exact.specs.History.{Entry, users, trades, resolutions, additions}
 use Rattle.mk_exact.specs.History.{is_transfer, is_settlement}

@@ -2,7 +2,7 @@
 
 ghost use Rattle.std.specs.Prelude.{◌≡◌, ◌==◌, ◌≤◌, true, false, None, length, map, string_bytes, All, IfOk, IfErr};
 ghost use Rattle.std.specs.List.{list_all, list_any};
-ghost use Rattle.mk_net.specs.Name.{is_name};
+ghost use Rattle.mk_names.specs.Name.{is_name};
 ghost use Rattle.mk_net.specs.Stored.{variable_of, variables_of};
 ghost use Rattle.mk_net.specs.Drafts.{drafts_of, draft_of_variable};
 ghost use Rattle.mk_net.specs.Checked.{first_fault, checked_variable, checked_network, number_of, has_double, share, is_share};
@@ -12,10 +12,10 @@ ghost use Rattle.mk_net.specs.inner.Counted.{HasShares};
 use super::{Network, StoredVariable};
 use crate::draft::{Draft, VariableDraft};
 use crate::fault::NetFault;
-use crate::name::Name;
 use crate::rows::share;
 use crate::words::NoMemory;
 use indexmap::{IndexMap, IndexSet};
+use mk_names::Name;
 use std::alloc::Global;
 
 /// The network of a draft.

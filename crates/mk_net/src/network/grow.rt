@@ -1,7 +1,7 @@
 //! The variable that an addition puts behind a network.
 
 ghost use Rattle.std.specs.Prelude.{◌≡◌, ◌≤◌, length, map, All, IfOk};
-ghost use Rattle.mk_net.specs.Name.{IsName};
+ghost use Rattle.mk_names.specs.Name.{IsName};
 ghost use Rattle.mk_net.specs.Bounds.{max_values, max_parents};
 ghost use Rattle.mk_net.specs.Network.{AreDistinct};
 ghost use Rattle.mk_net.specs.Stored.{variable_of};
@@ -9,10 +9,10 @@ ghost use Rattle.mk_net.specs.Additions.{variable_of_addition};
 
 use super::StoredVariable;
 use crate::addition::Addition;
-use crate::name::Name;
 use crate::row::Row;
 use crate::words::NoMemory;
 use indexmap::IndexSet;
+use mk_names::Name;
 use std::alloc::Global;
 
 /// The variable of an addition, as it is kept.

@@ -2,8 +2,7 @@
 use Rattle.std.specs.Prelude.{◌≡◌, ℕ, ◌≤◌, List, Bool, length}
 use Rattle.std.specs.List.{count_by}
 use Rattle.mk_net.specs.declared.words.Pair.{Pair}
-use Rattle.mk_net.specs.Bounds.{max_users, max_transfers, max_market_trades}
-use Rattle.mk_sets.specs.Sets.{max_variables}
+use Rattle.mk_net.specs.Bounds.{max_variables, max_users, max_transfers, max_market_trades}
 use Rattle.mk_exact.specs.History.{Entry, users, trades, resolutions, additions}
 use Rattle.mk_exact.specs.History.{is_transfer, is_settled}
 use Rattle.mk_history.specs.Histories.{HistoryOf, max_additions}

@@ -2,7 +2,8 @@
 use Rattle.std.specs.Prelude.{◌≡◌, ℕ, ◌<◌, List, length, fold, max, slice_index}
 use Rattle.std.specs.List.{position_or_len}
 use Rattle.mk_net.specs.declared.words.Pair.{Pair}
-use Rattle.mk_sets.specs.Sets.{max_variables, VarSet, is_member}
+use Rattle.mk_sets.specs.Sets.{VarSet, is_member}
+use Rattle.mk_net.specs.Bounds.{max_variables}
 
 -- the place of the first clique that holds a variable, or the number of cliques where none does
 abbrev pub first_holding : List VarSet → ℕ → ℕ

@@ -1,5 +1,5 @@
 use Rattle.std.proofs.Common.{◌≡◌, ℕ, ◌<◌, ◌≤◌, decimal, false}
-use Rattle.mk_net.specs.Texts.{same_text}
+use Rattle.mk_names.specs.Texts.{same_text}
 use Rattle.daggre.proofs.words.size_named.Given as goal
 
 abbrev pub invariant-loop-size : goal.invariant-loop-size

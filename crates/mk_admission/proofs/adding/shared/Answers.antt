@@ -1,6 +1,6 @@
 use Rattle.std.proofs.Common.{◌<◌, sym, ◌∙◌, subst, arith, length, slice_index_or}
 use Rattle.std.specs.Prelude.{All}
-use Rattle.mk_sets.specs.Sets.{max_variables}
+use Rattle.mk_net.specs.Bounds.{max_variables}
 use Rattle.mk_rules.specs.Additions.{numbers_named}
 use Rattle.mk_admission.proofs.Numbered.{numbers_below_length}
 use Rattle.mk_admission.proofs.adding.shared.Goals as goal

@@ -1,7 +1,7 @@
 use Rattle.std.proofs.Common.{◌≢◌, ℕ, zero, suc, ◌<◌, [], ◌∷◌, codes, length, slice_index_or, refl, arith}
 use Rattle.std.proofs.lemmas.List.Elements.{All-from_recursion}
 use Rattle.std.proofs.lemmas.List.Kept.{AllPairs-cons}
-use Rattle.mk_net.specs.Name.{IsName}
+use Rattle.mk_names.specs.Name.{IsName}
 use Rattle.mk_net.specs.Network.{Variable, IsRow, IsVariable, IsNetwork, AreDistinct, sizes, names}
 use Rattle.mk_net.specs.Named.{variable_at}
 use Rattle.mk_net.proofs.Checked.{name_of}

@@ -1,7 +1,7 @@
 use Rattle.std.proofs.Common.{◌∙◌, sym, rules, tests, string_bytes}
 use Rattle.std.proofs.lemmas.Iterator.{YieldsList-from_slice}
 use Rattle.std.proofs.lemmas.Iterator.Search.{all_from_yields_List}
-use Rattle.mk_net.specs.Name.{is_name}
+use Rattle.mk_names.specs.Name.{is_name}
 use Rattle.mk_net.proofs.Mapped.{all_of_map}
 use Rattle.mk_net.proofs.naming.are_names.Goals as goal
 

@@ -2,7 +2,7 @@ use Rattle.std.proofs.Common.{ℕ, ◌<◌, ◌≤◌, inl, inr, List, [], ◌�
 use Rattle.std.specs.Prelude.{length}
 use Rattle.std.specs.List.{AllByRecursion}
 use Rattle.std.proofs.lemmas.List.Elements.{All-from_recursion}
-use Rattle.mk_net.specs.Name.{IsName}
+use Rattle.mk_names.specs.Name.{IsName}
 use Rattle.mk_text.specs.Numbers.{IsShort}
 use Rattle.mk_addition.specs.Adds.{AreBetween, IsAddText}
 use Rattle.mk_addition.specs.declared.add.AddText.{AddText}

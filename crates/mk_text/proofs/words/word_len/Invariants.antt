@@ -1,5 +1,5 @@
 use Rattle.std.proofs.Common.{◌≡◌, ℕ, ◌<◌, get_or, true}
-use Rattle.mk_net.specs.Name.{is_name_byte}
+use Rattle.mk_names.specs.Name.{is_name_byte}
 use Rattle.mk_text.proofs.words.word_len.Given as goal
 
 abbrev pub invariant-loop-i : goal.invariant-loop-i

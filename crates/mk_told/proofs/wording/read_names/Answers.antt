@@ -1,7 +1,7 @@
 use Rattle.std.proofs.Common.{All, subst, arith}
 use Rattle.std.proofs.lemmas.List.{take_all}
 use Rattle.std.proofs.lemmas.List.Elements.{All-more}
-use Rattle.mk_net.specs.Name.{IsName}
+use Rattle.mk_names.specs.Name.{IsName}
 use Rattle.mk_told.proofs.wording.read_names.Goals as goal
 
 pub loop-name-preserved : goal.loop-name-preserved

@@ -23,12 +23,12 @@ loop-variable-preserved c =
     c.empty.ensures.members c.with.ensures.members c.without-left.ensures)
     c.values-cells.ensures (omega arith) c.loop-variable.invariant
 
-pub returns-then-cells-gt-MAX_CLIQUE : goal.returns-then-cells-gt-MAX_CLIQUE
-returns-then-cells-gt-MAX_CLIQUE c =
+pub returns-then-cells-gt-MAX_CLIQUE_CELLS : goal.returns-then-cells-gt-MAX_CLIQUE_CELLS
+returns-then-cells-gt-MAX_CLIQUE_CELLS c =
     cells_stop c.args.net.now c.args.clique.now c.loop-variable.left c.without-left.result c.in-Some.variable c.loop-variable.cells c.values-cells.result c.requires.network
     (first_taken c.empty.result c.with.result c.loop-variable.left c.without-left.result c.in-Some.variable c.in-Some.ensures.member c.in-Some.ensures.least
     c.empty.ensures.members c.with.ensures.members c.without-left.ensures)
-    c.values-cells.ensures c.if-cells-gt-MAX_CLIQUE.true c.loop-variable.invariant
+    c.values-cells.ensures c.if-cells-gt-MAX_CLIQUE_CELLS.true c.loop-variable.invariant
 
 pub returns : goal.returns
 returns c = cells_end c.args.net.now c.args.clique.now c.loop-variable.left c.loop-variable.cells c.in_default.ensures.none c.loop-variable.invariant

@@ -1,5 +1,5 @@
 use Rattle.std.proofs.Common.{arith}
-use Rattle.mk_sets.specs.Sets.{max_variables}
+use Rattle.mk_net.specs.Bounds.{max_variables}
 use Rattle.mk_tree.proofs.Cells.{first_taken, fewer_kept}
 use Rattle.mk_tree.proofs.Begun.{begun_more}
 use Rattle.mk_tree.proofs.starts.begin_at.Goals as goal

@@ -1,5 +1,6 @@
 use Rattle.std.proofs.Common.{length, filter}
-use Rattle.mk_sets.specs.Sets.{max_variables, is_member}
+use Rattle.mk_sets.specs.Sets.{is_member}
+use Rattle.mk_net.specs.Bounds.{max_variables}
 use Rattle.mk_states.specs.States.{numbers_below}
 use Rattle.mk_tree.proofs.Begun.{AreBegun}
 use Rattle.mk_tree.proofs.starts.begin_at.Given as goal

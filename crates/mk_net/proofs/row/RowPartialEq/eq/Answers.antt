@@ -1,6 +1,6 @@
 use Rattle.std.proofs.Common.{ap₂, ◌∙◌}
-use Rattle.mk_net.specs.Texts.{same_text}
-use Rattle.mk_net.proofs.SameText.{pointwise_is_same_text}
+use Rattle.mk_names.specs.Texts.{same_text}
+use Rattle.mk_names.proofs.SameText.{pointwise_is_same_text}
 use Rattle.mk_net.proofs.row.RowPartialEq.eq.Goals as goal
 
 pub returns : goal.returns

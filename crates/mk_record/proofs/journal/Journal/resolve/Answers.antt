@@ -1,7 +1,7 @@
 use Rattle.std.specs.Prelude.{◌≤◌, ◌∷◌, ◌++◌, [], length}
 use Rattle.std.proofs.Common.{arith}
 use Rattle.std.proofs.lemmas.List.{length_push}
-use Rattle.mk_sets.specs.Sets.{max_variables}
+use Rattle.mk_net.specs.Bounds.{max_variables}
 use Rattle.mk_exact.specs.History.{Resolve}
 use Rattle.mk_record.proofs.Counts.{after, still_limited}
 use Rattle.mk_record.proofs.journal.Journal.resolve.Goals as goal

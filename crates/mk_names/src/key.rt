@@ -1,7 +1,7 @@
 //! The keys of a market file.
 
 ghost use Rattle.std.specs.Prelude.{◌≡◌};
-ghost use Rattle.mk_net.specs.Key.{key_text};
+ghost use Rattle.mk_names.specs.Key.{key_text};
 
 /// A key of the market file, or of one of its variables.
 #[derive(Clone, Copy, Debug, PartialEq, Eq)]

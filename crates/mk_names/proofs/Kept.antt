@@ -3,8 +3,8 @@ use Rattle.std.specs.Prelude.{◌≡◌, ℕ, ◌-◌, List, ◌++◌, length, t
 use Rattle.std.proofs.Common.{ap, arith, length-append}
 use Rattle.std.proofs.Math.Seq.{take-append_seam}
 use Rattle.std.proofs.lemmas.List.{length-replicate, drop-replicate}
-use Rattle.mk_net.specs.Name.{IsName, max_name_bytes}
-use Rattle.mk_net.specs.inner.Padded.{IsPadded, padded}
+use Rattle.mk_names.specs.Name.{IsName, max_name_bytes}
+use Rattle.mk_names.specs.inner.Padded.{IsPadded, padded}
 
 pub padded_kept : (name : List ℕ) → IsName name → IsPadded (padded name) (length name)
 padded_kept name h = let seam : take (length name) (padded name) ≡ name = take-append_seam name (replicate (max_name_bytes - length name) 0) in

@@ -1,7 +1,7 @@
 -- How each key of a market file is written.
 use Rattle.std.specs.Prelude.{ℕ, List, codes}
-use Rattle.mk_net.specs.declared.key.Key.{Key}
-use Rattle.mk_net.specs.declared.key.Key.TheVariants.{PointsPerBit, MaxTrades, MaxUsers, MaxTransfers, Variable, Cliques, Links, Zeros, Name, Values, Parents, Rows}
+use Rattle.mk_names.specs.declared.key.Key.{Key}
+use Rattle.mk_names.specs.declared.key.Key.TheVariants.{PointsPerBit, MaxTrades, MaxUsers, MaxTransfers, Variable, Cliques, Links, Zeros, Name, Values, Parents, Rows}
 
 abbrev pub key_text : Key → List ℕ
 key_text PointsPerBit = codes "points_per_bit"

@@ -1,8 +1,8 @@
 -- A kept name gives its fields back.
 use Rattle.std.specs.Prelude.{◌≡◌, ℕ, List, length, take}
 use Rattle.std.proofs.Common.{ap, ◌∙◌, arith, length-take}
-use Rattle.mk_net.specs.inner.Padded.{IsPadded, padded}
-use Rattle.mk_net.specs.declared.name.Name.TheInside.{Inside}
+use Rattle.mk_names.specs.inner.Padded.{IsPadded, padded}
+use Rattle.mk_names.specs.declared.name.Name.TheInside.{Inside}
 
 pub kept_length : (bytes : List ℕ) (n : ℕ) → IsPadded bytes n → length (take n bytes) ≡ n
 kept_length bytes n h = grind (arith, length-take {A = ℕ}, h.whole, h.fits)

@@ -1,7 +1,7 @@
 use Rattle.std.proofs.Common.{rules, refl}
-use Rattle.mk_net.specs.Name.{IsName}
-use Rattle.mk_net.proofs.Kept.{copied_is_padded}
-use Rattle.mk_net.proofs.name.Name.read.Goals as goal
+use Rattle.mk_names.specs.Name.{IsName}
+use Rattle.mk_names.proofs.Kept.{copied_is_padded}
+use Rattle.mk_names.proofs.name.Name.read.Goals as goal
 
 pub invariant_of-result : goal.invariant_of-result
 invariant_of-result c = let named : IsName c.args.bytes.now = search rules in

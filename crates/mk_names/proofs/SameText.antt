@@ -2,8 +2,8 @@
 use Rattle.std.specs.Prelude.{◌≡◌, ℕ, List, [], ◌∷◌, Bool, ◌&&◌, eqb}
 use Rattle.std.proofs.Common.{refl, ap}
 use Rattle.std.specs.Cmp.Lexicographic.{pointwise}
-use Rattle.mk_net.specs.Texts.{same_text}
-pub use Rattle.mk_net.specs.inner.TextLaws.{same_text_refl, same_text_of_equal, both, equal_of_same_text}
+use Rattle.mk_names.specs.Texts.{same_text}
+pub use Rattle.mk_names.specs.inner.TextLaws.{same_text_refl, same_text_of_equal, both, equal_of_same_text}
 
 pub pointwise_is_same_text : (a b : List ℕ) → pointwise eqb a b ≡ same_text a b
 pointwise_is_same_text [] [] = refl

@@ -4,10 +4,10 @@ ghost use Rattle.std.specs.Prelude.{◌≡◌, IfSome, IsSome, IsTrue, ◌↔◌
 ghost use Rattle.std.specs.Cmp.{partial_equiv_from_equiv};
 ghost use Rattle.std.specs.Hash as fed;
 ghost use Rattle.std.specs.List.{list_all};
-ghost use Rattle.mk_net.specs.Name.{IsName};
-ghost use Rattle.mk_net.specs.Name as name;
-ghost use Rattle.mk_net.specs.Texts.{same_text};
-ghost use Rattle.mk_net.specs.inner.TextLaws.{same_text_equiv, alike_fed};
+ghost use Rattle.mk_names.specs.Name.{IsName};
+ghost use Rattle.mk_names.specs.Name as name;
+ghost use Rattle.mk_names.specs.Texts.{same_text};
+ghost use Rattle.mk_names.specs.inner.TextLaws.{same_text_equiv, alike_fed};
 
 use std::hash::{Hash, Hasher};
 use std::marker::Model;
@@ -21,7 +21,7 @@ pub struct Name {
 
 impl Model for Name {
     ghost use Rattle.std.specs.Prelude.{ℕ, List, length, take};
-    ghost use Rattle.mk_net.specs.inner.Padded.{IsPadded, padded};
+    ghost use Rattle.mk_names.specs.inner.Padded.{IsPadded, padded};
 
     ghost Value = { List ℕ };
 
@@ -32,7 +32,7 @@ impl Model for Name {
     ghost inverse = { λ name. record { bytes = padded name; size = length name } };
 
     ghost use Rattle.std.specs.Prelude.{refl};
-    ghost use Rattle.mk_net.specs.inner.PaddedLaws.{padded_inverse};
+    ghost use Rattle.mk_names.specs.inner.PaddedLaws.{padded_inverse};
 
     ghost inverse_ok = { λ n kept. padded_inverse n (record { bytes = padded (take n.size n.bytes); size = length (take n.size n.bytes) }) refl refl kept };
 }
@@ -102,7 +102,7 @@ impl Name {
 }
 
 /// Whether the bytes are a name.
-pub(crate) fn is_name(bytes: &[u8]) -> bool
+pub fn is_name(bytes: &[u8]) -> bool
     ensures test { result ≡ name.is_name bytes.now }
     ensures name { IsTrue result ↔ IsName bytes.now }
 {

@@ -1,6 +1,6 @@
 -- How a name is kept: its bytes, and zeros up to 32.
 use Rattle.std.specs.Prelude.{◌≡◌, ℕ, ◌-◌, ◌≤◌, List, ◌++◌, length, take, replicate}
-use Rattle.mk_net.specs.Name.{IsName, max_name_bytes}
+use Rattle.mk_names.specs.Name.{IsName, max_name_bytes}
 
 abbrev pub padded : List ℕ → List ℕ
 padded name = name ++ replicate (max_name_bytes - length name) 0

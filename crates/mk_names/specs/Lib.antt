@@ -1,0 +1,4 @@
+pub mod Name
+pub mod Texts
+pub mod Key
+pub mod inner

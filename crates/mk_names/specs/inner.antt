@@ -1,0 +1,4 @@
+-- What only proofs and private contracts cite.
+pub mod Padded
+pub mod PaddedLaws
+pub mod TextLaws
