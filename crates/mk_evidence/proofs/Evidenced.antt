@@ -1,12 +1,13 @@
 -- What is found for an auditor is what was asked for, and leaves the market as it stood.
 use Rattle.std.specs.Prelude.{◌≡◌, ℕ, List, [], ◌∷◌, map, false, Option, Some, None}
-use Rattle.std.specs.Prelude.{option_map, IsSomeAnd, IsErrAnd, IfOk, Result, Ok, Err}
+use Rattle.std.specs.Prelude.{option_map, IsSomeAnd, IsErrAnd, IfOk, MatchResult, Result, Ok, Err}
 use Rattle.std.specs.List.{AllZip}
 use Rattle.std.proofs.Common.{refl, sym, ap, ◌∙◌, subst}
 use Rattle.arrayvec.specs.ArrayVec.{ArrayVec}
 use Rattle.mk_net.specs.declared.words.PairText.{PairText}
 use Rattle.mk_net.specs.declared.words.QuestionText.{QuestionText}
 use Rattle.mk_net.specs.Asked.{Asked}
+use Rattle.mk_net.specs.Events.{pairs_asked}
 use Rattle.mk_net.specs.Firsts.{first_of}
 use Rattle.mk_net.specs.Network.{Variable, IsNetwork}
 use Rattle.mk_states.specs.Events.{always, holds, with_target, without_target}
@@ -23,6 +24,7 @@ use Rattle.mk_spread.specs.Markets.{values_of}
 use Rattle.mk_spread.specs.Spreads.{SpreadAsked, asked_of}
 use Rattle.mk_spread.proofs.Exist.{value_sides_exist}
 use Rattle.mk_spread.proofs.Left.{can_come_is}
+use Rattle.mk_tree.specs.Given.{home}
 use Rattle.mk_enclose.specs.declared.factor.Factor.{Factor}
 use Rattle.mk_file.specs.declared.market_file.MarketFile.{MarketFile}
 use Rattle.mk_file.specs.MarketOf.{market_of}
@@ -32,17 +34,25 @@ use Rattle.mk_judge.specs.declared.price.PriceBounds.{PriceBounds}
 use Rattle.mk_quote.specs.declared.bounds.Bounds.{Bounds}
 use Rattle.mk_quote.specs.Questions.{spread_in}
 use Rattle.mk_command.specs.declared.command.Command.{Command}
-use Rattle.mk_command.specs.declared.command.Command.TheVariants.{Price, Prices, Position}
+use Rattle.mk_command.specs.declared.command.Command.TheVariants.{Price, Limits, Edit, Prices}
+use Rattle.mk_command.specs.declared.command.Command.TheVariants.{Position}
 use Rattle.mk_reply.specs.declared.refusal.Refusal.{Refusal}
 use Rattle.mk_rules.specs.Refusals.{first_refusal, refusals_by_record, impossible_together}
-use Rattle.mk_rules.specs.Refusals.{user_number}
+use Rattle.mk_rules.specs.Refusals.{refusals_by_states, decided, user_number}
 use Rattle.mk_rules.proofs.Spreads.{spread_parts}
-use Rattle.mk_rules.proofs.Unrefused.{target_named}
+use Rattle.mk_rules.proofs.Unrefused.{target_named, none_applies}
 use Rattle.mk_answers.specs.Evidence.{AreBoundsOfPrice, IsPriceBounded, ArePricesBounded}
 use Rattle.mk_answers.specs.Evidence.{IsFactorOf, IsLeastFactorOf, IsSureFactor, AreSureFactors}
+use Rattle.mk_answers.specs.Evidence.{AreSidesBounded, AreSpreadSidesBounded}
+use Rattle.mk_answers.specs.declared.edit.Sides.{Sides}
+use Rattle.mk_answers.specs.declared.edit.Sides.TheVariants as both
+use Rattle.mk_answers.specs.declared.spread.SpreadSides.{SpreadSides}
+use Rattle.mk_answers.specs.declared.spread.SpreadSides.TheVariants as each
 use Rattle.mk_answers.specs.Open.{IsOpen}
+use Rattle.mk_answers.specs.Results.{AreSidesFor, AreSpreadSidesFor}
 use Rattle.mk_answers.proofs.Told.{not_never}
 use Rattle.mk_record.specs.declared.last_quote.LastQuote.{LastQuote}
+use Rattle.mk_record.specs.declared.requests.Request.{Request}
 use Rattle.mk_record.specs.declared.users.Member.{Member}
 use Rattle.mk_record.specs.Journals.{JournalOf}
 use Rattle.mk_record.specs.Members.{quotes_of}
@@ -55,10 +65,13 @@ use Rattle.mk_evidence.specs.Evidence.{IsAskedFor, IsPriceEvidence, ArePricesEvi
 use Rattle.mk_evidence.specs.Evidence.{IsWorstEvidence, IsPositionEvidence, IsPaymentEvidence}
 use Rattle.mk_evidence.specs.Evidence.{IsEditEvidence, IsSpreadEvidence}
 use Rattle.mk_market.specs.Trading.{Trading, IsOnlyAsked}
-use Rattle.mk_evidence.specs.inner.Finding.{AreBothFound, AreEachFound}
+use Rattle.mk_evidence.specs.inner.Finding.{AreBothFound, AreEachFound, IsRequestFor}
+use Rattle.mk_evidence.specs.inner.Finding.{IsDecidedAnew, question_command, opened, opened_each}
 use Rattle.mk_market.specs.inner.Keeping.{quoted}
 use Rattle.mk_market.proofs.Quotes.{trading}
 use Rattle.mk_market.proofs.Replies.{stopped_by_states, unrefused}
+use Rattle.mk_asking.specs.Stopped.{IsAskedBy, IsDecidedBy}
+use Rattle.mk_asking.proofs.Stopping.{none_stops}
 use Rattle.mk_asking.proofs.Together.{none_together, condition_comes}
 
 -- a market whose users were quoted the same was only asked
@@ -129,6 +142,69 @@ pub outcome_where : {T : Type 0} (network : List Variable) (H : List Entry) → 
     → IfOk result (λ _. CanBeSettled network H) → IfOk result (λ _. HasOutcome network H)
 outcome_where network H legal proper (Ok x) can = outcome_exists network H legal proper can.resolved
 outcome_where network H legal proper (Err why) can = tt
+
+-- ---- factors
+
+module _ (market : Market) (H : List Entry) where
+  pub payment_found : (user : ℕ) (factor : Factor)
+      → IsLeastFactorOf (evidence_grade market H) market.network H user always factor
+      → IsPaymentEvidence market H user factor
+  payment_found user factor found state one =
+      let only_gain : least_gain market.network H user always ≡ Some (gain H user state) =
+      rw one refl in
+      subst (λ (o : Option ℕ). IsSomeAnd o
+      (λ g. IsFactorOf (evidence_grade market H) market.network H user g factor)) only_gain
+      found
+
+-- by a user's least factor
+pub worst_found : {Own : Type 0} {old known : Trading Own} → known ≡ old → (command : Command)
+    (name : List ℕ) (user : ℕ) (factor : Factor) → IsUser known.standing.history name user
+    → None ≡ first_refusal known.market known.standing.history command
+    → IsLeastFactorOf (evidence_grade old.market old.standing.history) old.market.network
+    old.standing.history user always factor
+    → IsAskedFor old.market old.standing.history command (Ok factor)
+    (IsWorstEvidence old.market old.standing.history name)
+worst_found {Own} {old} {known} same command name user factor is_user none found = (
+  subst (λ (t : Trading Own). first_refusal t.market t.standing.history command ≡ None) same
+      (sym none),
+  subst (λ (n : ℕ). IsLeastFactorOf (evidence_grade old.market old.standing.history)
+      old.market.network old.standing.history n always factor)
+      (subst (λ (t : Trading Own). user ≡ user_number t.standing.history name) same is_user.number)
+      found,
+)
+
+-- ---- sides that were found
+
+pub both_opened : (most : ℕ) (network : List Variable) (H : List Entry) (u : ℕ) (asked : Asked)
+    (sides : Sides) → AreSidesFor network H u asked sides
+    → AreSidesBounded most network H u asked sides
+    → MatchResult (opened sides) (AreBothFound most network H u asked)
+    (IsDecidedBy network H asked)
+both_opened most network H u asked (both.Open bounds) are bounded =
+    record { left = are.0; bounded = bounded }
+both_opened most network H u asked both.Impossible are bounded = are
+both_opened most network H u asked both.Never are bounded = are
+both_opened most network H u asked both.Sure are bounded = are
+
+pub each_opened : (most : ℕ) (network : List Variable) (H : List Entry) (u : ℕ)
+    (spread : SpreadAsked) (sides : SpreadSides) → AreSpreadSidesFor network H u spread sides
+    → AreSpreadSidesBounded most network H u spread sides
+    → MatchResult (opened_each sides) (AreEachFound most network H u spread)
+    (IsDecidedAnew network H spread)
+each_opened most network H u spread (each.Open bounds) are bounded =
+    record { two_left = are.0; enclosed = are.1; bounded = bounded }
+each_opened most network H u spread each.Impossible are bounded = are
+each_opened most network H u spread (each.Sure value) are bounded = are
+
+-- a request that the record does not refuse
+pub request_found : (file : MarketFile) (H : List Entry) (name : List ℕ) (q : QuestionText)
+    (result : Result Request Refusal) → IfOk result (λ found. IsUser H name found.user)
+    → IfOk result (λ found. IsQuestionFor (market_of file) file.tree H q found.question)
+    → IfOk result (λ found. home file.tree (pairs_asked found.question) ≡ Some found.home)
+    → IfOk result (IsRequestFor file H name q)
+request_found file H name q (Ok request) user question at_home =
+    record { user = user; question = question; at_home = at_home }
+request_found file H name q (Err why) user question at_home = tt
 
 module _ (file : MarketFile) (H : List Entry) where
   -- the first refusal by what can come is that of the condition
@@ -224,29 +300,6 @@ module _ (file : MarketFile) (H : List Entry) where
             factors.items) is_user.number found.1),
       )
 
-  -- ---- factors
-
-  pub worst_found : (command : Command) (name : List ℕ) (user : ℕ) → IsUser H name user
-      → None ≡ first_refusal (market_of file) H command → (factor : Factor)
-      → IsLeastFactorOf (evidence_grade (market_of file) H) file.net H user always factor
-      → IsAskedFor (market_of file) H command (Ok factor)
-      (IsWorstEvidence (market_of file) H name)
-  worst_found command name user is_user none factor found = (
-    sym none,
-    subst (λ (n : ℕ). IsLeastFactorOf (evidence_grade (market_of file) H) file.net H n always
-        factor) is_user.number found,
-  )
-
-  pub payment_found : (user : ℕ) (factor : Factor)
-      → IsLeastFactorOf (evidence_grade (market_of file) H) file.net H user always factor
-      → IsPaymentEvidence (market_of file) H user factor
-  payment_found user factor found state one =
-      let only_gain : least_gain file.net H user always ≡ Some (gain H user state) =
-      rw one refl in
-      subst (λ (o : Option ℕ). IsSomeAnd o
-      (λ g. IsFactorOf (evidence_grade (market_of file) H) file.net H user g factor)) only_gain
-      found
-
   -- ---- sides
 
   module _ (is_open : IsOpen file.net file.tree H) (name : List ℕ) (user : ℕ)
@@ -304,3 +357,54 @@ module _ (file : MarketFile) (H : List Entry) where
         sides = value_sides_exist file.net H user (spread_in evidence.question) is_open.legal
             is_open.proper
             (record { in_order = question.answered.in_order; two_left = found.two_left })
+
+  -- ---- questions for limits and edits
+
+  module _ (name : List ℕ) (q : QuestionText) (request : Request)
+      (is : IsRequestFor file H name q request) where
+    pub asked_by : (wish : Option (ℕ × Option ℕ))
+        → None ≡ first_of (refusals_by_record (market_of file) H (question_command name q wish))
+        → IsAskedBy file.net q request.question
+    asked_by None none = record {
+      named = is.question.named;
+      known = (none_applies (refusals_by_record (market_of file) H (Limits name q))
+          (sym none)).1.1.0;
+    }
+    asked_by (Some wish) none = record {
+      named = is.question.named;
+      known = (none_applies (refusals_by_record (market_of file) H (Edit name q wish.0 wish.1))
+          (sym none)).1.1.0;
+    }
+
+    by_states : (wish : Option (ℕ × Option ℕ))
+        → refusals_by_states (market_of file) H (question_command name q wish)
+        ≡ impossible_together file.net H q.condition.items ∷ decided file.net H q ∷ []
+    by_states None = refl
+    by_states (Some wish) = refl
+
+    pub question_stopped : (wish : Option (ℕ × Option ℕ)) (why : Refusal)
+        → None ≡ first_of (refusals_by_record (market_of file) H (question_command name q wish))
+        → first_of (impossible_together file.net H q.condition.items ∷ decided file.net H q ∷ [])
+        ≡ Some why
+        → first_refusal (market_of file) H (question_command name q wish) ≡ Some why
+    question_stopped wish why none first =
+        sym (stopped_by_states (market_of file) H (question_command name q wish) why none
+        (ap (λ (faults : List (Option Refusal)). first_of faults) (by_states wish) ∙ first))
+
+    pub question_found : IsOpen file.net file.tree H → (wish : Option (ℕ × Option ℕ))
+        → None ≡ first_of (refusals_by_record (market_of file) H (question_command name q wish))
+        → (bounds : Bounds)
+        → AreBothFound (evidence_grade (market_of file) H) file.net H request.user request.question
+        bounds
+        → (evidence : EditEvidence)
+        → evidence
+        ≡ record { user = request.user; question = request.question; bounds = bounds }
+        → IsAskedFor (market_of file) H (question_command name q wish) (Ok evidence)
+        (IsEditEvidence (market_of file) H name q)
+    question_found open_now wish none bounds found evidence same = (
+      sym (unrefused (market_of file) H (question_command name q wish) none
+          (ap (λ (faults : List (Option Refusal)). first_of faults) (by_states wish)
+          ∙ none_stops file.net H q request.question (asked_by wish none) found.left)),
+      edit_found open_now name request.user is.user q request.question is.question bounds found
+          evidence same,
+    )

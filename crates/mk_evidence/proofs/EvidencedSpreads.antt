@@ -23,6 +23,7 @@ use Rattle.mk_answers.specs.Open.{IsOpen, CanBeSpreadHere, AreSideBoundsFor}
 use Rattle.mk_asking.specs.declared.possible.Stopped.{Stopped}
 use Rattle.mk_asking.specs.declared.possible.Stopped.TheVariants as stopped
 use Rattle.mk_evidence.specs.inner.Finding.{AreEachFound, HasQuote, ArePlaced, IsStoppedAnew}
+use Rattle.mk_evidence.specs.inner.Finding.{IsDecidedAnew}
 use Rattle.mk_asking.specs.Quoting.{IsSpreadQuoteOf}
 use Rattle.mk_asking.specs.Stopped.{IsRefusedFor, MayStop}
 use Rattle.mk_asking.proofs.StoppedSpreads.{decided_first, impossible_first, missing_first}
@@ -65,6 +66,14 @@ module _ (network : List Variable) (tree : GivenTree) (H : List Entry) (u : ℕ)
   anew_may_stop Xs one_each stopped.MissingShare is = tt
   anew_may_stop Xs one_each (stopped.Outside box) is = tt
 
+  -- so does what decides it
+  pub decided_is_anew : (Xs : List ℕ) (why : Stopped) → IsDecidedAnew network H spread why
+      → IsStoppedAnew network tree H u spread Xs why
+  decided_is_anew Xs (stopped.Decided why) is = is
+  decided_is_anew Xs (stopped.ImpossibleShare value) is = absurd is
+  decided_is_anew Xs stopped.MissingShare is = absurd is
+  decided_is_anew Xs (stopped.Outside box) is = absurd is
+
   module _ (v : List ℕ) (words : List PairText)
       (named : spread_named network v words ≡ Some spread) where
     -- nothing decides it where two values are left
@@ -101,3 +110,24 @@ module _ (network : List Variable) (tree : GivenTree) (H : List Entry) (u : ℕ)
       placed_first has =
           none_first network tree H v words spread named is_open u has.quote has.its to
           (has.meets.0) (has.meets.1)
+
+-- what decides a spread is its first refusal by what can come
+pub decided_only : (network : List Variable) (tree : GivenTree) (H : List Entry)
+    (spread : SpreadAsked) (v : List ℕ) (words : List PairText)
+    → spread_named network v words ≡ Some spread → (why : Stopped) (found : Refusal)
+    → IsDecidedAnew network H spread why → IsRefusedFor network H v words spread why found
+    → first_of (impossible_together network H words ∷ sure_value network H v words ∷ [])
+    ≡ Some found
+decided_only network tree H spread v words named (stopped.Decided why) found by is =
+    decided_first network tree H v words spread named why found [] by is
+decided_only network tree H spread v words named (stopped.ImpossibleShare value) found by is =
+    absurd by
+decided_only network tree H spread v words named stopped.MissingShare found by is = absurd by
+decided_only network tree H spread v words named (stopped.Outside box) found by is = absurd by
+
+pub decided_may_stop : (network : List Variable) (H : List Entry) (spread : SpreadAsked)
+    (why : Stopped) → IsDecidedAnew network H spread why → MayStop network H spread why
+decided_may_stop network H spread (stopped.Decided why) by = by
+decided_may_stop network H spread (stopped.ImpossibleShare value) by = absurd by
+decided_may_stop network H spread stopped.MissingShare by = tt
+decided_may_stop network H spread (stopped.Outside box) by = tt

@@ -1,3 +1,4 @@
+pub mod Asked
 pub mod Evidenced
 pub mod EvidencedSpreads
 pub mod Grading

@@ -6,8 +6,13 @@
 ghost use Rattle.std.specs.Prelude.{◌≡◌, ◌<◌, ◌≤◌, length};
 ghost use Rattle.mk_command.specs.declared.command.Command.TheVariants as command;
 ghost use Rattle.mk_exact.specs.History.{users};
+ghost use Rattle.mk_states.specs.Events.{always};
+ghost use Rattle.mk_file.specs.MarketOf.{market_of};
+ghost use Rattle.mk_quote.specs.Questions.{spread_in};
+ghost use Rattle.mk_answers.specs.Evidence.{IsLeastFactorOf, AreSureFactors};
 ghost use Rattle.mk_market.specs.Trading.{IsOnlyAsked};
-ghost use Rattle.mk_evidence.specs.Grades.{all_cells};
+ghost use Rattle.mk_evidence.specs.Grades.{all_cells, evidence_grade};
+ghost use Rattle.mk_evidence.specs.inner.Finding.{AreAsked, CanAskEach};
 ghost use Rattle.mk_evidence.specs.Evidence.{IsAskedFor, IsPriceEvidence, ArePricesEvidence};
 ghost use Rattle.mk_evidence.specs.Evidence.{IsWorstEvidence, IsPositionEvidence};
 ghost use Rattle.mk_evidence.specs.Evidence.{IsPaymentEvidence, IsBoundEvidence};
@@ -19,12 +24,14 @@ use mk_answers::{
 use mk_asking::{learn, refuse_condition};
 use mk_enclose::{Enclosure, Factor};
 use mk_engine::{Engine, TreeGraded};
+use mk_file::MarketFile;
 use mk_judge::PriceBounds;
 use mk_market::Market;
 use mk_names::Name;
 use mk_net::{PairText, QuestionText};
 use mk_record::{
-    not_settled, refuse_bounds, refuse_price, refuse_prices, refuse_transfer, refuse_worst,
+    Journal, SpreadRequest, Users, not_settled, refuse_bounds, refuse_price, refuse_prices,
+    refuse_transfer, refuse_worst,
 };
 use mk_reply::Refusal;
 use mk_semiring::{MinProd, SumProd};
@@ -82,8 +89,7 @@ pub fn worst_evidence<P: TreeGraded<SumProd>, A: TreeGraded<MinProd>>(
         (IsWorstEvidence market.old.market (market.old.standing).history name.now) }
 {
     let user = refuse_worst(&market.journal, &market.users, name)?;
-    learn(&mut market.users, &market.file, &market.journal, user);
-    Ok(least_of(market.users.assets(user)))
+    Ok(user_factor(market, user))
 }
 
 /// The same factor, by which so many bits are taken out or are too many.
@@ -98,8 +104,7 @@ pub fn withdrawal_evidence<P: TreeGraded<SumProd>, A: TreeGraded<MinProd>>(
         (IsWorstEvidence market.old.market (market.old.standing).history name.now) }
 {
     let user = refuse_transfer(&market.journal, &market.users, name, bits)?;
-    learn(&mut market.users, &market.file, &market.journal, user);
-    Ok(least_of(market.users.assets(user)))
+    Ok(user_factor(market, user))
 }
 
 /// A user's least factor where each value of a variable comes, in order; none for a value that
@@ -125,18 +130,7 @@ pub fn position_evidence<P: TreeGraded<SumProd>, A: TreeGraded<MinProd>>(
         variable,
         words,
     )?;
-    learn(
-        &mut market.users,
-        &market.file,
-        &market.journal,
-        request.user,
-    );
-    match sure_factors_of(
-        market.users.assets(request.user),
-        &market.file.net,
-        request.home,
-        &request.question,
-    ) {
+    match sure_factors(&market.file, &mut market.users, &market.journal, &request) {
         Some(factors) => Ok(factors),
         None => Err(refuse_condition(
             &mut market.prices,
@@ -145,6 +139,28 @@ pub fn position_evidence<P: TreeGraded<SumProd>, A: TreeGraded<MinProd>>(
             words,
         )),
     }
+}
+
+/// A user's least factor where each value of a variable comes, or none where the condition cannot
+/// come. The user's assets learn what is known.
+fn sure_factors<A: TreeGraded<MinProd>>(
+    file: &MarketFile,
+    members: &mut Users<A>,
+    journal: &Journal,
+    request: &SpreadRequest,
+) -> Option<ArrayVec<Option<Factor>, 16>>
+    requires { CanAskEach A.stands_for file.now journal.now.history members.old request.now }
+    ensures users { AreAsked A.stands_for file.now journal.now.history members.old members.new }
+    ensures factors { AreSureFactors (evidence_grade (market_of file.now) journal.now.history)
+        file.now.net journal.now.history request.now.user (spread_in request.now.question) result }
+{
+    learn(members, file, journal, request.user);
+    sure_factors_of(
+        members.assets(request.user),
+        &file.net,
+        request.home,
+        &request.question,
+    )
 }
 
 /// How many users joined.
@@ -164,6 +180,20 @@ pub fn payment_evidence<P: TreeGraded<SumProd>, A: TreeGraded<MinProd>>(
     ensures same { IsOnlyAsked market.old market.new }
     ensures evidence { IsPaymentEvidence market.old.market (market.old.standing).history user
         result }
+{
+    user_factor(market, user)
+}
+
+/// A user's least factor. The market stays as it stood, and the user's assets learn what is known.
+fn user_factor<P: TreeGraded<SumProd>, A: TreeGraded<MinProd>>(
+    market: &mut Market<P, A>,
+    user: u32,
+) -> Factor
+    requires { user < length (users (market.old.standing).history) }
+    ensures same { IsOnlyAsked market.old market.new }
+    ensures least { IsLeastFactorOf
+        (evidence_grade market.old.market (market.old.standing).history)
+        (market.old.market).network (market.old.standing).history user always result }
 {
     learn(&mut market.users, &market.file, &market.journal, user);
     least_of(market.users.assets(user))

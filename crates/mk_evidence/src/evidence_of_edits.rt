@@ -1,12 +1,16 @@
 //! Bounds of both sides of a question, by which an auditor judges its limits and its edits.
 
-ghost use Rattle.std.specs.Prelude.{◌≡◌, MatchResult};
+ghost use Rattle.std.specs.Prelude.{◌≡◌, IfOk, MatchResult};
+ghost use Rattle.mk_net.specs.Firsts.{first_of};
 ghost use Rattle.mk_command.specs.declared.command.Command.TheVariants as command;
+ghost use Rattle.mk_exact.specs.History.{users as users_of};
 ghost use Rattle.mk_engine.specs.Meaning.{Meaning};
-ghost use Rattle.mk_record.specs.Members.{names_of, quotes_of};
+ghost use Rattle.mk_rules.specs.Refusals.{refusals_by_record};
+ghost use Rattle.mk_record.specs.Members.{names_of};
+ghost use Rattle.mk_record.specs.Refused.{refusal_in};
 ghost use Rattle.mk_market.specs.Trading.{IsOnlyAsked};
-ghost use Rattle.mk_evidence.specs.inner.Finding.{CanFindBoth, AreBothFound};
-ghost use Rattle.mk_asking.specs.Keeping.{AreHeld};
+ghost use Rattle.mk_evidence.specs.inner.Finding.{AreAsked, CanFindBoth, AreBothFound};
+ghost use Rattle.mk_evidence.specs.inner.Finding.{IsRequestFor, question_command, opened};
 ghost use Rattle.mk_asking.specs.Stopped.{IsDecidedBy};
 ghost use Rattle.mk_evidence.specs.Grades.{evidence_grade};
 ghost use Rattle.mk_file.specs.MarketOf.{market_of};
@@ -14,7 +18,7 @@ ghost use Rattle.mk_evidence.specs.Evidence.{IsAskedFor, IsEditEvidence};
 
 use mk_answers::{Sides, bounds_of};
 use mk_asking::{Decided, learn, refuse_decided};
-use mk_engine::TreeGraded;
+use mk_engine::{Engine, TreeGraded};
 use mk_file::MarketFile;
 use mk_market::Market;
 use mk_names::Name;
@@ -33,40 +37,6 @@ pub struct EditEvidence {
     pub bounds: Bounds,
 }
 
-/// The bounds of both sides of a request's question, or what decides the question. The engine
-/// stands for what it stood for, and the user's assets learn what is known.
-fn edit_bounds<P: TreeGraded<SumProd>, A: TreeGraded<MinProd>>(
-    file: &MarketFile,
-    prices: &mut P,
-    users: &mut Users<A>,
-    journal: &Journal,
-    request: &Request,
-) -> Result<Bounds, Decided>
-    requires { CanFindBoth P.stands_for A.stands_for file.now journal.now.history prices.old
-        users.old request.now }
-    ensures prices { (m : Meaning) → P.stands_for prices.old m → P.stands_for prices.new m }
-    ensures held { AreHeld A.stands_for file.now.net file.now.tree journal.now.history users.new }
-    ensures names { names_of users.new ≡ names_of users.old }
-    ensures quotes { quotes_of users.new ≡ quotes_of users.old }
-    ensures bounds { MatchResult result
-        (λ bounds. AreBothFound (evidence_grade (market_of file.now) journal.now.history)
-        file.now.net journal.now.history request.now.user request.now.question bounds)
-        (λ why. IsDecidedBy file.now.net journal.now.history request.now.question why) }
-{
-    let Request {
-        user,
-        question,
-        home,
-    } = *request;
-    learn(users, file, journal, user);
-    match bounds_of(prices, users.assets(user), &file.net, home, &question) {
-        Sides::Open(bounds) => Ok(bounds),
-        Sides::Impossible => Err(Decided::Impossible),
-        Sides::Never => Err(Decided::Never),
-        Sides::Sure => Err(Decided::Sure),
-    }
-}
-
 /// The bounds of a question for a user, by which `limits` is answered. The market stays as it
 /// stood, and the user's assets learn what is known.
 pub fn limits_evidence<P: TreeGraded<SumProd>, A: TreeGraded<MinProd>>(
@@ -79,21 +49,7 @@ pub fn limits_evidence<P: TreeGraded<SumProd>, A: TreeGraded<MinProd>>(
         (command.Limits name.now question.now) result
         (IsEditEvidence market.old.market (market.old.standing).history name.now question.now) }
 {
-    let request = refuse_limits(&market.file, &market.journal, &market.users, name, question)?;
-    match edit_bounds(
-        &market.file,
-        &mut market.prices,
-        &mut market.users,
-        &market.journal,
-        &request,
-    ) {
-        Ok(bounds) => Ok(EditEvidence {
-            user: request.user,
-            question: request.question,
-            bounds,
-        }),
-        Err(why) => Err(refuse_decided(&mut market.prices, question, &request, why)),
-    }
+    question_evidence(market, name, question, None)
 }
 
 /// The same bounds, by which an edit to so many millionths is answered, whose user has seen a
@@ -111,8 +67,30 @@ pub fn edit_evidence<P: TreeGraded<SumProd>, A: TreeGraded<MinProd>>(
         (command.Edit name.now question.now to at) result
         (IsEditEvidence market.old.market (market.old.standing).history name.now question.now) }
 {
-    let wish = EditWish { question, to, at };
-    let request = refuse_edit(&market.file, &market.journal, &market.users, name, &wish)?;
+    question_evidence(market, name, question, Some((to, at)))
+}
+
+/// The same bounds, for limits or for an edit that is wished: its millionths, and the revision that
+/// its user has seen.
+fn question_evidence<P: TreeGraded<SumProd>, A: TreeGraded<MinProd>>(
+    market: &mut Market<P, A>,
+    name: &Name,
+    question: &QuestionText,
+    wish: Option<(u32, Option<u32>)>,
+) -> Result<EditEvidence, Refusal>
+    ensures same { IsOnlyAsked market.old market.new }
+    ensures evidence { IsAskedFor market.old.market (market.old.standing).history
+        (question_command name.now question.now wish) result
+        (IsEditEvidence market.old.market (market.old.standing).history name.now question.now) }
+{
+    let request = refuse_question(
+        &market.file,
+        &market.journal,
+        &market.users,
+        name,
+        question,
+        wish,
+    )?;
     match edit_bounds(
         &market.file,
         &mut market.prices,
@@ -126,5 +104,70 @@ pub fn edit_evidence<P: TreeGraded<SumProd>, A: TreeGraded<MinProd>>(
             bounds,
         }),
         Err(why) => Err(refuse_decided(&mut market.prices, question, &request, why)),
+    }
+}
+
+/// What the record refuses limits or a wished edit for, and else the request in numbers.
+fn refuse_question<A: Engine<MinProd>>(
+    file: &MarketFile,
+    journal: &Journal,
+    users: &Users<A>,
+    name: &Name,
+    question: &QuestionText,
+    wish: Option<(u32, Option<u32>)>,
+) -> Result<Request, Refusal>
+    requires named { names_of users.now ≡ users_of journal.now.history }
+    requires max_trades { journal.now.max_trades ≡ file.now.max_trades }
+    ensures refusal { refusal_in result ≡ first_of (refusals_by_record
+        (market_of file.now) journal.now.history (question_command name.now question.now wish)) }
+    ensures request { IfOk result
+        (IsRequestFor file.now journal.now.history name.now question.now) }
+{
+    match wish {
+        Some((to, at)) => {
+            let wish = EditWish { question, to, at };
+            refuse_edit(file, journal, users, name, &wish)
+        }
+        None => refuse_limits(file, journal, users, name, question),
+    }
+}
+
+/// The bounds of both sides of a request's question, or what decides the question. The engine
+/// stands for what it stood for, and the user's assets learn what is known.
+fn edit_bounds<P: TreeGraded<SumProd>, A: TreeGraded<MinProd>>(
+    file: &MarketFile,
+    prices: &mut P,
+    users: &mut Users<A>,
+    journal: &Journal,
+    request: &Request,
+) -> Result<Bounds, Decided>
+    requires { CanFindBoth P.stands_for A.stands_for file.now journal.now.history prices.old
+        users.old request.now }
+    ensures prices { (m : Meaning) → P.stands_for prices.old m → P.stands_for prices.new m }
+    ensures users { AreAsked A.stands_for file.now journal.now.history users.old users.new }
+    ensures bounds { MatchResult result
+        (AreBothFound (evidence_grade (market_of file.now) journal.now.history)
+        file.now.net journal.now.history request.now.user request.now.question)
+        (IsDecidedBy file.now.net journal.now.history request.now.question) }
+{
+    let Request {
+        user,
+        question: asked,
+        home,
+    } = *request;
+    learn(users, file, journal, user);
+    let sides = bounds_of(prices, users.assets(user), &file.net, home, &asked);
+    opened(sides)
+}
+
+/// The bounds of both sides where both can come, or what decides the question.
+fn opened(sides: Sides) -> Result<Bounds, Decided>
+    ensures { result ≡ opened sides }
+{
+    match sides {
+        Sides::Open(bounds) => Ok(bounds),
+        Sides::Impossible => Err(Decided::Impossible),
+        Sides::Never => Err(Decided::Never),
+        Sides::Sure => Err(Decided::Sure),
     }
 }

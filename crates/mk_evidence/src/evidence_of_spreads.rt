@@ -1,16 +1,18 @@
 //! Bounds of each value of a variable, by which an auditor judges its bounds and its spreads.
 
-ghost use Rattle.std.specs.Prelude.{◌≡◌, length, slice_index, MatchResult};
-ghost use Rattle.mk_net.specs.Network.{sizes};
+ghost use Rattle.std.specs.Prelude.{◌≡◌, ℕ, List, length, slice_index, ⊤, MatchResult};
+ghost use Rattle.mk_net.specs.Network.{Variable, sizes};
 ghost use Rattle.mk_command.specs.declared.command.Command.TheVariants as command;
 ghost use Rattle.mk_engine.specs.Meaning.{Meaning};
 ghost use Rattle.mk_quote.specs.Questions.{spread_in};
-ghost use Rattle.mk_record.specs.Members.{names_of, quotes_of};
+ghost use Rattle.mk_tree.specs.Given.{GivenTree};
+ghost use Rattle.mk_answers.specs.Open.{CanBeSpreadHere};
 ghost use Rattle.mk_market.specs.Trading.{IsOnlyAsked};
 ghost use Rattle.mk_evidence.specs.inner.Finding.{CanFindEach, AreEachFound, ArePlacedBounds};
-ghost use Rattle.mk_evidence.specs.inner.Finding.{IsStoppedAnew};
-ghost use Rattle.mk_asking.specs.Keeping.{AreHeld};
-ghost use Rattle.mk_asking.specs.Stopped.{IsSpreadDecidedBy};
+ghost use Rattle.mk_evidence.specs.inner.Finding.{AreAsked, IsDecidedAnew, IsStoppedAnew};
+ghost use Rattle.mk_evidence.specs.inner.Finding.{IsTold, opened_each};
+ghost use Rattle.mk_asking.specs.Quoting.{IsSpreadQuoteOf};
+ghost use Rattle.mk_asking.specs.Stopped.{CanRefuseSpread};
 ghost use Rattle.mk_evidence.specs.Grades.{evidence_grade};
 ghost use Rattle.mk_file.specs.MarketOf.{market_of};
 ghost use Rattle.mk_evidence.specs.Evidence.{IsAskedFor, IsSpreadEvidence};
@@ -22,7 +24,7 @@ use mk_engine::TreeGraded;
 use mk_file::MarketFile;
 use mk_market::Market;
 use mk_names::Name;
-use mk_net::PairText;
+use mk_net::{Network, PairText};
 use mk_quote::{SpreadBounds, SpreadQuestion, SpreadQuote};
 use mk_record::{Journal, SpreadRequest, SpreadWish, Users, refuse_bounds, refuse_spread};
 use mk_reply::Refusal;
@@ -45,29 +47,34 @@ fn spread_bounds<P: TreeGraded<SumProd>, A: TreeGraded<MinProd>>(
     users: &mut Users<A>,
     journal: &Journal,
     request: &SpreadRequest,
-) -> Result<SpreadBounds, SpreadDecided>
+) -> Result<SpreadBounds, Stopped>
     requires { CanFindEach P.stands_for A.stands_for file.now journal.now.history prices.old
         users.old request.now }
     ensures prices { (m : Meaning) → P.stands_for prices.old m → P.stands_for prices.new m }
-    ensures held { AreHeld A.stands_for file.now.net file.now.tree journal.now.history users.new }
-    ensures names { names_of users.new ≡ names_of users.old }
-    ensures quotes { quotes_of users.new ≡ quotes_of users.old }
+    ensures users { AreAsked A.stands_for file.now journal.now.history users.old users.new }
     ensures bounds { MatchResult result
-        (λ bounds. AreEachFound (evidence_grade (market_of file.now) journal.now.history)
-        file.now.net journal.now.history request.now.user (spread_in request.now.question) bounds)
-        (λ why. IsSpreadDecidedBy file.now.net journal.now.history
-        (spread_in request.now.question) why) }
+        (AreEachFound (evidence_grade (market_of file.now) journal.now.history)
+        file.now.net journal.now.history request.now.user (spread_in request.now.question))
+        (IsDecidedAnew file.now.net journal.now.history (spread_in request.now.question)) }
 {
     let SpreadRequest {
         user,
-        question,
+        question: asked,
         home,
     } = *request;
     learn(users, file, journal, user);
-    match spread_bounds_of(prices, users.assets(user), &file.net, home, &question) {
+    let sides = spread_bounds_of(prices, users.assets(user), &file.net, home, &asked);
+    opened_each(sides)
+}
+
+/// The bounds of each value where two can come, or what decides the question.
+fn opened_each(sides: SpreadSides) -> Result<SpreadBounds, Stopped>
+    ensures { result ≡ opened_each sides }
+{
+    match sides {
         SpreadSides::Open(bounds) => Ok(bounds),
-        SpreadSides::Impossible => Err(SpreadDecided::Impossible),
-        SpreadSides::Sure(value) => Err(SpreadDecided::Sure(value)),
+        SpreadSides::Impossible => Err(Stopped::Decided(SpreadDecided::Impossible)),
+        SpreadSides::Sure(value) => Err(Stopped::Decided(SpreadDecided::Sure(value))),
     }
 }
 
@@ -86,9 +93,7 @@ fn placed_bounds<P: TreeGraded<SumProd>, A: TreeGraded<MinProd>>(
     requires one_each { length shares.now ≡ slice_index (sizes file.now.net)
         request.now.question.variable }
     ensures prices { (m : Meaning) → P.stands_for prices.old m → P.stands_for prices.new m }
-    ensures held { AreHeld A.stands_for file.now.net file.now.tree journal.now.history users.new }
-    ensures names { names_of users.new ≡ names_of users.old }
-    ensures quotes { quotes_of users.new ≡ quotes_of users.old }
+    ensures users { AreAsked A.stands_for file.now journal.now.history users.old users.new }
     ensures placed { MatchResult result
         (λ bounds. ArePlacedBounds (evidence_grade (market_of file.now) journal.now.history)
         file.now.net file.now.tree journal.now.history request.now.user
@@ -98,9 +103,9 @@ fn placed_bounds<P: TreeGraded<SumProd>, A: TreeGraded<MinProd>>(
 {
     let bounds = match spread_bounds(file, prices, users, journal, request) {
         Ok(bounds) => bounds,
-        Err(why) => return Err(Stopped::Decided(why)),
+        Err(why) => return Err(why),
     };
-    let quote = SpreadQuote::make(request.user, request.question, journal.revision(), &bounds);
+    let quote = quote_of(journal, request, &bounds);
     if let Some(value) = quote.impossible_share(shares) {
         return Err(Stopped::ImpossibleShare(value));
     }
@@ -108,6 +113,18 @@ fn placed_bounds<P: TreeGraded<SumProd>, A: TreeGraded<MinProd>>(
         return Err(Stopped::MissingShare);
     }
     Ok(bounds)
+}
+
+/// A quote that is made of the bounds of a request.
+fn quote_of(journal: &Journal, request: &SpreadRequest, bounds: &SpreadBounds) -> SpreadQuote
+    ensures { (network : List Variable) (tree : GivenTree) (most : ℕ)
+        → CanBeSpreadHere network tree journal.now.history (spread_in request.now.question)
+        → AreEachFound most network journal.now.history request.now.user
+        (spread_in request.now.question) bounds.now
+        → IsSpreadQuoteOf network tree journal.now.history request.now.user
+        (spread_in request.now.question) result }
+{
+    SpreadQuote::make(request.user, request.question, journal.revision(), bounds)
 }
 
 /// The bounds of each value of a variable for a user, by which `bounds` is answered. The market
@@ -124,46 +141,41 @@ pub fn bounds_evidence<P: TreeGraded<SumProd>, A: TreeGraded<MinProd>>(
         (IsSpreadEvidence market.old.market (market.old.standing).history name.now variable.now
         condition.now) }
 {
+    let words = condition.as_slice();
     let request = refuse_bounds(
         &market.file,
         &market.journal,
         &market.users,
         name,
         variable,
-        condition.as_slice(),
+        words,
     )?;
-    match spread_bounds(
+    let found = spread_bounds(
         &market.file,
         &mut market.prices,
         &mut market.users,
         &market.journal,
         &request,
-    ) {
-        Ok(bounds) => Ok(SpreadEvidence {
-            user: request.user,
-            question: request.question,
-            bounds,
-        }),
-        Err(why) => Err(refuse_stopped(
-            &mut market.prices,
-            &market.file.net,
-            variable,
-            condition.as_slice(),
-            &request,
-            Stopped::Decided(why),
-        )),
-    }
+    );
+    told(
+        &mut market.prices,
+        &market.file.net,
+        variable,
+        words,
+        &request,
+        found,
+    )
 }
 
 /// The same bounds, by which a spread to so many millionths each is answered, whose user has
 /// seen a revision. They are found anew also where the user's last quote is of this spread. The
 /// market stays as it stood, and the user's assets learn what is known.
-pub fn spread_evidence<P: TreeGraded<SumProd>, A: TreeGraded<MinProd>>(
+pub fn spread_evidence<'a, P: TreeGraded<SumProd>, A: TreeGraded<MinProd>>(
     market: &mut Market<P, A>,
     name: &Name,
-    variable: &Name,
-    condition: &ArrayVec<PairText, 8>,
-    to: &ArrayVec<u32, 16>,
+    variable: &'a Name,
+    condition: &'a ArrayVec<PairText, 8>,
+    to: &'a ArrayVec<u32, 16>,
     at: Option<u32>,
 ) -> Result<SpreadEvidence, Refusal>
     ensures same { IsOnlyAsked market.old market.new }
@@ -172,33 +184,55 @@ pub fn spread_evidence<P: TreeGraded<SumProd>, A: TreeGraded<MinProd>>(
         (IsSpreadEvidence market.old.market (market.old.standing).history name.now variable.now
         condition.now) }
 {
+    let words = condition.as_slice();
+    let shares = to.as_slice();
     let wish = SpreadWish {
         variable,
-        condition: condition.as_slice(),
-        to: to.as_slice(),
+        condition: words,
+        to: shares,
         at,
     };
     let request = refuse_spread(&market.file, &market.journal, &market.users, name, &wish)?;
-    match placed_bounds(
+    let found = placed_bounds(
         &market.file,
         &mut market.prices,
         &mut market.users,
         &market.journal,
         &request,
-        to.as_slice(),
-    ) {
+        shares,
+    );
+    told(
+        &mut market.prices,
+        &market.file.net,
+        variable,
+        words,
+        &request,
+        found,
+    )
+}
+
+/// Evidence of the bounds that were found for a request, or the refusal of what stopped them, in
+/// the words of the request. The engine stands for what it stood for.
+fn told<P: TreeGraded<SumProd>>(
+    prices: &mut P,
+    net: &Network,
+    variable: &Name,
+    words: &[PairText],
+    request: &SpreadRequest,
+    found: Result<SpreadBounds, Stopped>,
+) -> Result<SpreadEvidence, Refusal>
+    requires { MatchResult found (λ _. ⊤) (CanRefuseSpread P.stands_for prices.old net.now
+        variable.now words.now request.now) }
+    ensures prices { (m : Meaning) → P.stands_for prices.old m → P.stands_for prices.new m }
+    ensures told { IsTold P.stands_for prices.old net.now variable.now words.now request.now found
+        result }
+{
+    match found {
         Ok(bounds) => Ok(SpreadEvidence {
             user: request.user,
             question: request.question,
             bounds,
         }),
-        Err(why) => Err(refuse_stopped(
-            &mut market.prices,
-            &market.file.net,
-            variable,
-            condition.as_slice(),
-            &request,
-            why,
-        )),
+        Err(why) => Err(refuse_stopped(prices, net, variable, words, request, why)),
     }
 }

@@ -15,7 +15,7 @@ ghost use Rattle.mk_rules.specs.Refusals.{user_number};
 ghost use Rattle.mk_rules.specs.Answers.{IsLimits, IsTrade, IsJudged, IsJudgedAfresh};
 ghost use Rattle.mk_judge_quotes.specs.Editing.{AreEditBounds, AreLimitsLeftOpen};
 ghost use Rattle.mk_judge_quotes.specs.Editing.{IsEditLeftOpen};
-ghost use Rattle.mk_judge_quotes.specs.inner.Editing.{IsTradeLeftOpen};
+ghost use Rattle.mk_judge_quotes.specs.inner.Editing.{IsTradeLeftOpen, CanJudgeTrade, JudgesEdit};
 ghost use Rattle.mk_judge_quotes.specs.Told.{beyond_told};
 
 use crate::told::beyond_told;
@@ -84,15 +84,10 @@ fn judge_by_quote(
     to: u32,
     reply: &Reply,
 ) -> Judged
-    requires hit_range { HasTradeRange bounds.now.hit_factor }
-    requires miss_range { HasTradeRange bounds.now.miss_factor }
-    requires some { 1 ≤ to }
-    requires few { to ≤ 999999 }
-    ensures { (market : Market) (H : List Entry) (name : List ℕ) (q : QuestionText)
-        → (its : AreEditBounds market H name q bounds.now small now)
-        → Judges result
-        (IsJudged market.network H (user_number H name) its.asked to limits reply.now)
-        (IsTradeLeftOpen market H (user_number H name) its.asked to reply.now) }
+    requires { CanJudgeTrade bounds.now to }
+    ensures { JudgesEdit result bounds.now small now
+        (λ market H u asked. IsJudged market.network H u asked to limits reply.now)
+        (λ market H u asked. IsTradeLeftOpen market H u asked to reply.now) }
 {
     if is_inside(limits, to) {
         judge_trade(bounds, small, now, to, reply)
@@ -103,15 +98,10 @@ fn judge_by_quote(
 
 /// Judges it without current limits: by its units, or by limits that are right.
 fn judge_afresh(bounds: &Bounds, small: bool, now: u64, to: u32, reply: &Reply) -> Judged
-    requires hit_range { HasTradeRange bounds.now.hit_factor }
-    requires miss_range { HasTradeRange bounds.now.miss_factor }
-    requires some { 1 ≤ to }
-    requires few { to ≤ 999999 }
-    ensures { (market : Market) (H : List Entry) (name : List ℕ) (q : QuestionText)
-        → (its : AreEditBounds market H name q bounds.now small now)
-        → Judges result
-        (IsJudgedAfresh market.network H (user_number H name) its.asked to reply.now)
-        (IsEditLeftOpen market H (user_number H name) its.asked to None reply.now) }
+    requires { CanJudgeTrade bounds.now to }
+    ensures { JudgesEdit result bounds.now small now
+        (λ market H u asked. IsJudgedAfresh market.network H u asked to reply.now)
+        (λ market H u asked. IsEditLeftOpen market H u asked to None reply.now) }
 {
     match beyond_told(reply) {
         Some(limits) => {
@@ -127,15 +117,10 @@ fn judge_afresh(bounds: &Bounds, small: bool, now: u64, to: u32, reply: &Reply) 
 
 /// Judges a trade to so many millionths by its units on both sides.
 fn judge_trade(bounds: &Bounds, small: bool, now: u64, to: u32, reply: &Reply) -> Judged
-    requires hit_range { HasTradeRange bounds.now.hit_factor }
-    requires miss_range { HasTradeRange bounds.now.miss_factor }
-    requires some { 1 ≤ to }
-    requires few { to ≤ 999999 }
-    ensures { (market : Market) (H : List Entry) (name : List ℕ) (q : QuestionText)
-        → (its : AreEditBounds market H name q bounds.now small now)
-        → Judges result
-        (IsTrade market.network H (user_number H name) its.asked to reply.now)
-        (IsTradeLeftOpen market H (user_number H name) its.asked to reply.now) }
+    requires { CanJudgeTrade bounds.now to }
+    ensures { JudgesEdit result bounds.now small now
+        (λ market H u asked. IsTrade market.network H u asked to reply.now)
+        (λ market H u asked. IsTradeLeftOpen market H u asked to reply.now) }
 {
     match reply {
         Reply::Traded { hit, miss, at } => {

@@ -21,7 +21,8 @@ ghost use Rattle.mk_rules.specs.Answers.{IsBounds, IsSpreadTrade};
 ghost use Rattle.mk_rules.specs.Answers.{IsSpreadJudged, IsSpreadJudgedAfresh};
 ghost use Rattle.mk_judge_quotes.specs.Spreading.{AreEachBounds, AreBoundsLeftOpen};
 ghost use Rattle.mk_judge_quotes.specs.Spreading.{IsSpreadLeftOpen};
-ghost use Rattle.mk_judge_quotes.specs.inner.Spreading.{IsSpreadTradeLeftOpen};
+ghost use Rattle.mk_judge_quotes.specs.inner.Spreading.{IsSpreadTradeLeftOpen, JudgesSpread};
+ghost use Rattle.mk_judge_quotes.specs.inner.Spreading.{CanJudgeSpread};
 ghost use Rattle.mk_judge_quotes.specs.inner.Spreading.{SaysIntervals, IsSameBox};
 
 use crate::edits::is_inside;
@@ -91,15 +92,11 @@ fn judge_by_quote(
     to: &[u32],
     reply: &Reply,
 ) -> Judged
-    requires range { HaveTradeRange (sides_in bounds.now) }
-    requires shares { All (λ X. X ≤ 999999) to.now }
-    ensures { (market : Market) (H : List Entry) (name : List ℕ) (v : List ℕ)
-        (condition : TheArrayVec PairText)
-        → (its : AreEachBounds market H name v condition bounds.now small now)
-        → Judges result
-        (IsSpreadJudged market.network H (user_number H name) its.spread to.now
+    requires { CanJudgeSpread bounds.now to.now }
+    ensures { JudgesSpread result bounds.now small now
+        (λ market H u spread. IsSpreadJudged market.network H u spread to.now
         (given_in intervals.now) reply.now)
-        (IsSpreadTradeLeftOpen market H (user_number H name) its.spread to.now reply.now) }
+        (λ market H u spread. IsSpreadTradeLeftOpen market H u spread to.now reply.now) }
 {
     if are_inside(intervals, to) {
         judge_spread_trade(bounds, small, now, to, reply)
@@ -110,15 +107,10 @@ fn judge_by_quote(
 
 /// Judges it without current bounds: by its units, or by bounds that are right.
 fn judge_afresh(bounds: &SpreadBounds, small: bool, now: u64, to: &[u32], reply: &Reply) -> Judged
-    requires range { HaveTradeRange (sides_in bounds.now) }
-    requires shares { All (λ X. X ≤ 999999) to.now }
-    ensures { (market : Market) (H : List Entry) (name : List ℕ) (v : List ℕ)
-        (condition : TheArrayVec PairText)
-        → (its : AreEachBounds market H name v condition bounds.now small now)
-        → Judges result
-        (IsSpreadJudgedAfresh market.network H (user_number H name) its.spread to.now
-        reply.now)
-        (IsSpreadLeftOpen market H (user_number H name) its.spread to.now None reply.now) }
+    requires { CanJudgeSpread bounds.now to.now }
+    ensures { JudgesSpread result bounds.now small now
+        (λ market H u spread. IsSpreadJudgedAfresh market.network H u spread to.now reply.now)
+        (λ market H u spread. IsSpreadLeftOpen market H u spread to.now None reply.now) }
 {
     match outside_told(reply) {
         Some(intervals) => {
@@ -140,14 +132,10 @@ fn judge_spread_trade(
     to: &[u32],
     reply: &Reply,
 ) -> Judged
-    requires range { HaveTradeRange (sides_in bounds.now) }
-    requires shares { All (λ X. X ≤ 999999) to.now }
-    ensures { (market : Market) (H : List Entry) (name : List ℕ) (v : List ℕ)
-        (condition : TheArrayVec PairText)
-        → (its : AreEachBounds market H name v condition bounds.now small now)
-        → Judges result
-        (IsSpreadTrade market.network H (user_number H name) its.spread to.now reply.now)
-        (IsSpreadTradeLeftOpen market H (user_number H name) its.spread to.now reply.now) }
+    requires { CanJudgeSpread bounds.now to.now }
+    ensures { JudgesSpread result bounds.now small now
+        (λ market H u spread. IsSpreadTrade market.network H u spread to.now reply.now)
+        (λ market H u spread. IsSpreadTradeLeftOpen market H u spread to.now reply.now) }
 {
     match reply {
         Reply::Spreaded { factors, at } => {

@@ -11,21 +11,16 @@ use Rattle.mk_answers.specs.Evidence.{grade_together}
 use Rattle.mk_evidence.specs.Grades.{evidence_grade}
 use Rattle.mk_evidence.specs.Evidence.{IsPriceEvidence}
 use Rattle.mk_evidence.proofs.Grading.{weights_within}
-use Rattle.mk_evidence.proofs.Evidenced.{asked_refused, asked_in, stopped_in}
-use Rattle.mk_evidence.proofs.Evidenced.{price_found, price_stopped}
-use Rattle.mk_market.proofs.Growing.{is_open}
-use Rattle.mk_market.proofs.Replies.{by_record}
+use Rattle.mk_evidence.proofs.Asked.{open_now, refused_by_record}
+use Rattle.mk_evidence.proofs.Evidenced.{asked_in, stopped_in, price_found, price_stopped}
 use Rattle.mk_asking.proofs.Stopping.{can_refuse_condition, impossible_by}
 use Rattle.mk_market.proofs.Stopping.{price_known}
 use Rattle.mk_evidence.proofs.evidence.price_evidence.Goals as goal
 
 pub returns-in_err-asked-clause-evidence : goal.returns-in_err-asked-clause-evidence
-returns-in_err-asked-clause-evidence g c =
-    let i = c.market.inside in let command = Price c.args.question.now in
-    asked_refused c.args.market.now _ c.market.view_is command c.in_err-asked.field-0.0
-    c.from_residual.result _ c.from_residual.ensures.1
-    (by_record (market_of i.file) i.journal.history command c.in_err-asked.field-0.0
-    c.in_err-asked.ensures.refusal)
+returns-in_err-asked-clause-evidence g c = refused_by_record c.market.invariant c.market.view_is
+    (Price c.args.question.now) c.from_residual.result _ c.from_residual.ensures.1
+    c.in_err-asked.ensures.refusal
 
 pub price_bounds_of-requires : goal.price_bounds_of-requires
 price_bounds_of-requires g c =
@@ -35,8 +30,7 @@ price_bounds_of-requires g c =
       tree = i.file.tree;
       history = i.journal.history;
       stands = c.market.invariant.prices_stand;
-      is_open = is_open g.P.Engine.stands_for g.A.Engine.stands_for g.A.Engine.plan_for i.file
-          i.prices i.rows i.plan i.users i.ledger i.journal i.payments i.till c.market.invariant;
+      is_open = open_now c.market.invariant;
       answered = found.ensures.question.answered;
       held = home_is_held i.file.tree found.home (pairs_asked found.asked) found.ensures.home;
     }
@@ -45,8 +39,7 @@ pub refuse_condition-requires : goal.refuse_condition-requires
 refuse_condition-requires g c =
     let i = c.market.inside in let found = c.in_ok-asked in let H = i.journal.history in
     let of = grade_together (g.P.Engine.grade_of (weights_of i.file.net i.file.tree H)) in
-    let opened = is_open g.P.Engine.stands_for g.A.Engine.stands_for g.A.Engine.plan_for i.file
-    i.prices i.rows i.plan i.users i.ledger i.journal i.payments i.till c.market.invariant in
+    let opened = open_now c.market.invariant in
     let bounds = c.in-None.ensures.bounds i.file.tree H of c.market.invariant.prices_stand opened
     found.ensures.question.answered (le_refl of) in
     can_refuse_condition g.P.Engine.stands_for c.price_bounds_of.new.prices i.file.net i.file.tree H
@@ -62,8 +55,7 @@ pub returns-in-Some-clause-evidence : goal.returns-in-Some-clause-evidence
 returns-in-Some-clause-evidence g c =
     let i = c.market.inside in let found = c.in_ok-asked in let H = i.journal.history in
     let m = weights_of i.file.net i.file.tree H in
-    let opened = is_open g.P.Engine.stands_for g.A.Engine.stands_for g.A.Engine.plan_for i.file
-    i.prices i.rows i.plan i.users i.ledger i.journal i.payments i.till c.market.invariant in
+    let opened = open_now c.market.invariant in
     asked_in c.args.market.now _ c.market.view_is (Price c.args.question.now) (Ok c.in-Some.bounds)
     (λ (market : Market) (history : List Entry). IsPriceEvidence market history
     c.args.question.now)
@@ -77,8 +69,7 @@ pub returns-in-None-clause-evidence : goal.returns-in-None-clause-evidence
 returns-in-None-clause-evidence g c =
     let i = c.market.inside in let found = c.in_ok-asked in let H = i.journal.history in
     let of = grade_together (g.P.Engine.grade_of (weights_of i.file.net i.file.tree H)) in
-    let opened = is_open g.P.Engine.stands_for g.A.Engine.stands_for g.A.Engine.plan_for i.file
-    i.prices i.rows i.plan i.users i.ledger i.journal i.payments i.till c.market.invariant in
+    let opened = open_now c.market.invariant in
     let bounds = c.in-None.ensures.bounds i.file.tree H of c.market.invariant.prices_stand opened
     found.ensures.question.answered (le_refl of) in
     stopped_in c.args.market.now _ c.market.view_is (Price c.args.question.now)

@@ -1,10 +1,10 @@
-use Rattle.std.proofs.Common.{◌∙◌}
 use Rattle.mk_tree.proofs.Held.{home_is_held}
-use Rattle.mk_asking.proofs.Learnt.{held_asked, still_in_range}
-use Rattle.mk_asking.proofs.Lent.{names_stay, quotes_stay}
+use Rattle.mk_asking.proofs.Learnt.{still_in_range}
 use Rattle.mk_beliefs.specs.Meanings.{weights_of, gains_of}
 use Rattle.mk_file.specs.MarketOf.{market_of}
 use Rattle.mk_evidence.specs.Grades.{evidence_grade}
+use Rattle.mk_evidence.proofs.Asked.{learnt_asked}
+use Rattle.mk_evidence.proofs.Evidenced.{both_opened}
 use Rattle.mk_evidence.proofs.Grading.{weights_within, gains_within}
 use Rattle.mk_evidence.proofs.evidence_of_edits.edit_bounds.Goals as goal
 
@@ -12,8 +12,8 @@ pub assets-requires : goal.assets-requires
 assets-requires g c = still_in_range c.args.users.now c.learn.new.users c.args.request.now.user
     c.learn.ensures.names c.requires.user
 
-pub bounds_of-requires : goal.bounds_of-requires
-bounds_of-requires g c =
+pub bounds_of-sides-requires : goal.bounds_of-sides-requires
+bounds_of-sides-requires g c =
     let a = c.requires in
     record {
       tree = c.args.file.now.tree;
@@ -26,102 +26,22 @@ bounds_of-requires g c =
       held = home_is_held c.args.file.now.tree c.args.request.now.home _ a.at_home;
     }
 
-pub returns-in-Open-clause-held : goal.returns-in-Open-clause-held
-returns-in-Open-clause-held g c =
-    held_asked g.A.Engine.stands_for c.args.file.now.net c.args.file.now.tree
-    c.args.journal.now.history
-    c.learn.new.users c.learn.ensures.held c.args.request.now.user c.assets.result.now
-    c.bounds_of.new.assets c.assets.ensures.value c.bounds_of.ensures.kept_assets
+pub returns-clause-users : goal.returns-clause-users
+returns-clause-users g c = learnt_asked c.learn.new.users c.args.request.now.user
+    c.assets.result.now c.bounds_of-sides.new.assets c.learn.ensures.held c.learn.ensures.names
+    c.learn.ensures.quotes c.assets.ensures.value c.bounds_of-sides.ensures.kept_assets
 
-pub returns-in-Open-clause-names : goal.returns-in-Open-clause-names
-returns-in-Open-clause-names g c = names_stay c.learn.new.users
-    c.args.request.now.user c.bounds_of.new.assets ∙ c.learn.ensures.names
-
-pub returns-in-Open-clause-quotes : goal.returns-in-Open-clause-quotes
-returns-in-Open-clause-quotes g c = quotes_stay c.learn.new.users
-    c.args.request.now.user c.bounds_of.new.assets ∙ c.learn.ensures.quotes
-
-pub returns-in-Open-clause-bounds : goal.returns-in-Open-clause-bounds
-returns-in-Open-clause-bounds g c =
-    let H = c.args.journal.now.history in let in_use = c.requires.in_use in
-    let answered = c.requires.answered in
-    let tree = c.args.file.now.tree in let u = c.args.request.now.user in
-    let file = c.args.file.now in
-    let w = weights_of file.net tree H in let m = gains_of file.net tree H u in
+pub returns-clause-bounds : goal.returns-clause-bounds
+returns-clause-bounds g c =
+    let file = c.args.file.now in let H = c.args.journal.now.history in
+    let u = c.args.request.now.user in let a = c.requires in
+    let w = weights_of file.net file.tree H in let m = gains_of file.net file.tree H u in
+    let most = evidence_grade (market_of file) H in
     let owns = c.learn.ensures.learnt c.assets.result.now c.assets.ensures.value in
-    record {
-      left = (c.in-Open.ensures.sides tree H u in_use.weights owns in_use.is_open answered).0;
-      bounded = c.in-Open.ensures.bounded tree H u (evidence_grade (market_of file) H)
-          in_use.weights owns in_use.is_open answered
-          (weights_within file H (g.P.Engine.grade_of w) (g.met.P.TreeGraded.within_tree w))
-          (gains_within file H u (g.A.Engine.grade_of m) (g.met.A.TreeGraded.within_tree m));
-    }
-
-pub returns-in-Impossible-clause-held : goal.returns-in-Impossible-clause-held
-returns-in-Impossible-clause-held g c =
-    held_asked g.A.Engine.stands_for c.args.file.now.net c.args.file.now.tree
-    c.args.journal.now.history
-    c.learn.new.users c.learn.ensures.held c.args.request.now.user c.assets.result.now
-    c.bounds_of.new.assets c.assets.ensures.value c.bounds_of.ensures.kept_assets
-
-pub returns-in-Impossible-clause-names : goal.returns-in-Impossible-clause-names
-returns-in-Impossible-clause-names g c = names_stay c.learn.new.users
-    c.args.request.now.user c.bounds_of.new.assets ∙ c.learn.ensures.names
-
-pub returns-in-Impossible-clause-quotes : goal.returns-in-Impossible-clause-quotes
-returns-in-Impossible-clause-quotes g c = quotes_stay c.learn.new.users
-    c.args.request.now.user c.bounds_of.new.assets ∙ c.learn.ensures.quotes
-
-pub returns-in-Impossible-clause-bounds : goal.returns-in-Impossible-clause-bounds
-returns-in-Impossible-clause-bounds g c =
-    let H = c.args.journal.now.history in let in_use = c.requires.in_use in
-    let answered = c.requires.answered in
-    c.in-Impossible.ensures.sides c.args.file.now.tree H c.args.request.now.user in_use.weights
-    (c.learn.ensures.learnt c.assets.result.now c.assets.ensures.value)
-    in_use.is_open answered
-
-pub returns-in-Never-clause-held : goal.returns-in-Never-clause-held
-returns-in-Never-clause-held g c =
-    held_asked g.A.Engine.stands_for c.args.file.now.net c.args.file.now.tree
-    c.args.journal.now.history
-    c.learn.new.users c.learn.ensures.held c.args.request.now.user c.assets.result.now
-    c.bounds_of.new.assets c.assets.ensures.value c.bounds_of.ensures.kept_assets
-
-pub returns-in-Never-clause-names : goal.returns-in-Never-clause-names
-returns-in-Never-clause-names g c = names_stay c.learn.new.users
-    c.args.request.now.user c.bounds_of.new.assets ∙ c.learn.ensures.names
-
-pub returns-in-Never-clause-quotes : goal.returns-in-Never-clause-quotes
-returns-in-Never-clause-quotes g c = quotes_stay c.learn.new.users
-    c.args.request.now.user c.bounds_of.new.assets ∙ c.learn.ensures.quotes
-
-pub returns-in-Never-clause-bounds : goal.returns-in-Never-clause-bounds
-returns-in-Never-clause-bounds g c =
-    let H = c.args.journal.now.history in let in_use = c.requires.in_use in
-    let answered = c.requires.answered in
-    c.in-Never.ensures.sides c.args.file.now.tree H c.args.request.now.user in_use.weights
-    (c.learn.ensures.learnt c.assets.result.now c.assets.ensures.value)
-    in_use.is_open answered
-
-pub returns-in-Sure-clause-held : goal.returns-in-Sure-clause-held
-returns-in-Sure-clause-held g c =
-    held_asked g.A.Engine.stands_for c.args.file.now.net c.args.file.now.tree
-    c.args.journal.now.history
-    c.learn.new.users c.learn.ensures.held c.args.request.now.user c.assets.result.now
-    c.bounds_of.new.assets c.assets.ensures.value c.bounds_of.ensures.kept_assets
-
-pub returns-in-Sure-clause-names : goal.returns-in-Sure-clause-names
-returns-in-Sure-clause-names g c = names_stay c.learn.new.users
-    c.args.request.now.user c.bounds_of.new.assets ∙ c.learn.ensures.names
-
-pub returns-in-Sure-clause-quotes : goal.returns-in-Sure-clause-quotes
-returns-in-Sure-clause-quotes g c = quotes_stay c.learn.new.users
-    c.args.request.now.user c.bounds_of.new.assets ∙ c.learn.ensures.quotes
-
-pub returns-in-Sure-clause-bounds : goal.returns-in-Sure-clause-bounds
-returns-in-Sure-clause-bounds g c =
-    let H = c.args.journal.now.history in let in_use = c.requires.in_use in
-    let answered = c.requires.answered in
-    c.in-Sure.ensures.sides c.args.file.now.tree H c.args.request.now.user in_use.weights
-    (c.learn.ensures.learnt c.assets.result.now c.assets.ensures.value)
-    in_use.is_open answered
+    rw c.opened.ensures (both_opened most file.net H u c.args.request.now.question
+    c.bounds_of-sides.result
+    (c.bounds_of-sides.ensures.sides file.tree H u a.in_use.weights owns a.in_use.is_open
+    a.answered)
+    (c.bounds_of-sides.ensures.bounded file.tree H u most a.in_use.weights owns a.in_use.is_open
+    a.answered (weights_within file H (g.P.Engine.grade_of w) (g.met.P.TreeGraded.within_tree w))
+    (gains_within file H u (g.A.Engine.grade_of m) (g.met.A.TreeGraded.within_tree m))))

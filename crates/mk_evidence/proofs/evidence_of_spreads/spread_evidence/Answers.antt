@@ -1,181 +1,63 @@
-use Rattle.std.proofs.Common.{◌≡◌, ℕ, List, length, slice_index, refl, sym, subst}
+use Rattle.std.proofs.Common.{◌≡◌, ℕ, List, length, slice_index, sym, subst}
 use Rattle.mk_net.specs.Network.{sizes}
-use Rattle.mk_exact.specs.History.{users}
-use Rattle.mk_net.specs.declared.words.PairText.{PairText}
-use Rattle.mk_file.specs.MarketOf.{market_of}
 use Rattle.mk_command.specs.declared.command.Command.TheVariants.{Spread}
 use Rattle.mk_quote.specs.Questions.{spread_in}
-use Rattle.mk_evidence.specs.Grades.{evidence_grade}
-use Rattle.mk_evidence.specs.inner.Finding.{ArePlacedBounds, IsStoppedAnew}
-use Rattle.mk_asking.specs.Stopped.{IsRefusedFor}
-use Rattle.mk_evidence.proofs.Evidenced.{asked_refused, only_asked, spread_found}
-use Rattle.mk_evidence.proofs.EvidencedSpreads.{placed_first, stopped_first, anew_may_stop}
-use Rattle.mk_market.proofs.Growing.{is_open}
-use Rattle.mk_asking.proofs.Lent.{in_range}
-use Rattle.mk_market.proofs.Quotes.{kept_unquoted}
 use Rattle.mk_market.proofs.Refiled.{refiled}
-use Rattle.mk_market.proofs.Replies.{by_record, stopped_by_states, unrefused}
-use Rattle.mk_market.proofs.Spreads.{question_for}
-use Rattle.mk_market.proofs.StoppedSpreads.{can_refuse, spread_known, one_share_each}
-use Rattle.mk_market.proofs.Trades.{in_use}
+use Rattle.mk_evidence.proofs.Asked.{asked_kept, asked_only, can_find_each, refused_by_record}
+use Rattle.mk_evidence.proofs.Asked.{one_each, spread_can_tell, spread_told}
 use Rattle.mk_evidence.proofs.evidence_of_spreads.spread_evidence.Goals as goal
 
 pub returns-in_err-request-clause-evidence : goal.returns-in_err-request-clause-evidence
-returns-in_err-request-clause-evidence g c =
-    let i = c.market.inside in
-    let command = Spread c.args.name.now c.args.variable.now c.args.condition.now c.args.to.now
-    c.args.at in
-    asked_refused c.args.market.now _ c.market.view_is command c.in_err-request.field-0.0
+returns-in_err-request-clause-evidence g c = refused_by_record c.market.invariant c.market.view_is
+    (Spread c.args.name.now c.args.variable.now c.args.condition.now c.args.to.now c.args.at)
     c.from_residual.result _ c.from_residual.ensures.1
-    (by_record (market_of i.file) i.journal.history command c.in_err-request.field-0.0
     (c.in_err-request.ensures.refusal c.args.condition.now c.args.to.now
-    (sym c.as_slice.ensures.value) (sym c.as_slice-2.ensures.value)))
+    (sym c.as_slice-words.ensures.value) (sym c.as_slice-shares.ensures.value))
 
-pub placed_bounds-requires-clause-found : goal.placed_bounds-requires-clause-found
-placed_bounds-requires-clause-found g c =
-    let i = c.market.inside in let found = c.in_ok-request in
-    record {
-      in_use = in_use g.P.Engine.stands_for g.A.Engine.stands_for g.A.Engine.plan_for i.file
-          i.prices i.rows i.plan i.users i.ledger i.journal i.payments i.till c.market.invariant
-          i.prices
-          i.users (λ m stands. stands) c.market.invariant.held;
-      user = in_range i.users (users i.journal.history) found.request.user
-          c.market.invariant.named found.ensures.user.within;
-      answered = found.ensures.question.answered;
-      at_home = found.ensures.home;
-    }
+pub placed_bounds-found-requires-clause-found : goal.placed_bounds-found-requires-clause-found
+placed_bounds-found-requires-clause-found g c =
+    let its = c.in_ok-request.ensures in
+    can_find_each c.market.invariant c.in_ok-request.request its.user.within its.question.answered
+    its.home
 
-pub placed_bounds-requires-clause-one_each : goal.placed_bounds-requires-clause-one_each
-placed_bounds-requires-clause-one_each g c =
-    let i = c.market.inside in let found = c.in_ok-request in let H = i.journal.history in
-    let spread = spread_in found.request.question in
-    let question = question_for i.file H c.args.variable.now c.as_slice.result.now
-    c.args.condition.now spread c.as_slice.ensures.value found.ensures.question in
-    let none = found.ensures.refusal c.args.condition.now c.args.to.now
-    (sym c.as_slice.ensures.value) (sym c.as_slice-2.ensures.value) in
+pub placed_bounds-found-requires-clause-one_each : goal.placed_bounds-found-requires-clause-one_each
+placed_bounds-found-requires-clause-one_each g c =
+    let i = c.market.inside in let its = c.in_ok-request.ensures in
+    let spread = spread_in c.in_ok-request.request.question in
     subst (λ (Xs : List ℕ). length Xs ≡ slice_index (sizes i.file.net) spread.variable)
-    (sym c.as_slice-3.ensures.value)
-    (one_share_each g.P.Engine.stands_for g.A.Engine.stands_for g.A.Engine.plan_for i.file i.prices
-    i.rows i.plan i.users i.ledger i.journal i.payments i.till c.market.invariant
-    i.prices i.users c.args.name.now found.request.user found.ensures.user c.args.variable.now
-    c.args.condition.now spread question c.args.to.now c.args.at none)
+    (sym c.as_slice-shares.ensures.value)
+    (one_each i.file i.journal.history c.args.name.now c.args.variable.now c.args.condition.now
+    c.as_slice-words.result.now c.as_slice-words.ensures.value spread its.question.named
+    c.args.to.now c.args.at (its.refusal c.args.condition.now c.args.to.now
+    (sym c.as_slice-words.ensures.value) (sym c.as_slice-shares.ensures.value)))
 
-pub refuse_stopped-requires : goal.refuse_stopped-requires
-refuse_stopped-requires g c =
-    let i = c.market.inside in let found = c.in_ok-request in let H = i.journal.history in
-    let spread = spread_in found.request.question in
-    let question = question_for i.file H c.args.variable.now c.as_slice.result.now
-    c.args.condition.now spread c.as_slice.ensures.value found.ensures.question in
-    let none = found.ensures.refusal c.args.condition.now c.args.to.now
-    (sym c.as_slice.ensures.value) (sym c.as_slice-2.ensures.value) in
-    let one_each = one_share_each g.P.Engine.stands_for g.A.Engine.stands_for g.A.Engine.plan_for
-    i.file i.prices i.rows i.plan i.users i.ledger i.journal i.payments i.till c.market.invariant
-    i.prices i.users c.args.name.now found.request.user found.ensures.user c.args.variable.now
-    c.args.condition.now spread question c.args.to.now c.args.at none in
-    let stopped = subst (λ (Xs : List ℕ). IsStoppedAnew i.file.net i.file.tree H
-    found.request.user spread Xs c.in-Err.why) c.as_slice-3.ensures.value c.in-Err.ensures.placed
-    in
-    can_refuse g.P.Engine.stands_for g.A.Engine.stands_for g.A.Engine.plan_for i.file i.prices
-    i.rows i.plan i.users i.ledger i.journal i.payments i.till c.market.invariant
-    c.placed_bounds.new.prices c.placed_bounds.new.users c.args.name.now
-    found.request.user found.ensures.user c.args.variable.now c.args.condition.now spread question
-    found.request refl found.ensures.home c.as_slice-in-Err.result.now
-    c.as_slice-in-Err.ensures.value
-    (spread_known g.P.Engine.stands_for g.A.Engine.stands_for g.A.Engine.plan_for i.file i.prices
-    i.rows i.plan i.users i.ledger i.journal i.payments i.till c.market.invariant
-    c.placed_bounds.new.prices c.placed_bounds.new.users c.args.name.now
-    found.request.user found.ensures.user c.args.variable.now c.args.condition.now spread question
-    c.args.to.now c.args.at none)
-    c.in-Err.ensures.prices c.in-Err.why
-    (anew_may_stop i.file.net i.file.tree H found.request.user spread c.args.to.now.items one_each
-    c.in-Err.why stopped)
+pub told-requires : goal.told-requires
+told-requires g c =
+    let its = c.in_ok-request.ensures in let made = c.placed_bounds-found in
+    spread_can_tell c.market.invariant c.market.view_is c.args.condition.now
+    c.as_slice-words.ensures.value c.in_ok-request.request its.user its.question its.home
+    made.ensures.prices made.result c.args.to.now c.as_slice-shares.ensures.value c.args.at
+    (its.refusal c.args.condition.now c.args.to.now (sym c.as_slice-words.ensures.value)
+    (sym c.as_slice-shares.ensures.value)) made.ensures.placed
 
 pub invariant_of-market : goal.invariant_of-market
 invariant_of-market g c =
-    let i = c.market.inside in let made = c.placed_bounds in
     refiled _ _ _ _ _ _ _ _ _ _ _ _ g.P.Engine.stands_for g.A.Engine.stands_for g.A.Engine.plan_for
     _ _ _ _
     _ _ _ _
-    (kept_unquoted g.P.Engine.stands_for g.A.Engine.stands_for g.A.Engine.plan_for i.file i.prices
-    made.new.prices i.rows i.plan i.users made.new.users i.ledger i.journal i.payments i.till
-    c.market.invariant made.ensures.prices made.ensures.names made.ensures.quotes
-    made.ensures.held)
+    (asked_kept c.market.invariant
+    (λ m stands. c.told.ensures.prices m (c.placed_bounds-found.ensures.prices m stands))
+    c.placed_bounds-found.ensures.users)
 
-pub returns-in-Ok-clause-same : goal.returns-in-Ok-clause-same
-returns-in-Ok-clause-same g c =
-    let i = c.market.inside in
-    only_asked i.file i.ledger i.journal i.users c.placed_bounds.new.users
-    c.placed_bounds.ensures.quotes c.args.market.now c.market.view_is
+pub returns-clause-same : goal.returns-clause-same
+returns-clause-same g c =
+    asked_only c.market.invariant c.market.view_is c.placed_bounds-found.ensures.users
 
-pub returns-in-Ok-clause-evidence : goal.returns-in-Ok-clause-evidence
-returns-in-Ok-clause-evidence g c =
-    let i = c.market.inside in let found = c.in_ok-request in let H = i.journal.history in
-    let opened = is_open g.P.Engine.stands_for g.A.Engine.stands_for g.A.Engine.plan_for i.file
-    i.prices i.rows i.plan i.users i.ledger i.journal i.payments i.till c.market.invariant in
-    let spread = spread_in found.request.question in
-    let command = Spread c.args.name.now c.args.variable.now c.args.condition.now c.args.to.now
-    c.args.at in
-    let question = question_for i.file H c.args.variable.now c.as_slice.result.now
-    c.args.condition.now spread c.as_slice.ensures.value found.ensures.question in
-    let none = found.ensures.refusal c.args.condition.now c.args.to.now
-    (sym c.as_slice.ensures.value) (sym c.as_slice-2.ensures.value) in
-    let placed = subst (λ (Xs : List ℕ). ArePlacedBounds
-    (evidence_grade (market_of i.file) H) i.file.net i.file.tree H found.request.user spread Xs
-    c.in-Ok.bounds) c.as_slice-3.ensures.value c.in-Ok.ensures.placed
-    in
-    rw (← c.market.view_is) (
-      sym (unrefused (market_of i.file) H command none
-          (placed_first i.file.net i.file.tree H found.request.user spread c.args.variable.now
-          c.args.condition.now.items question.named opened c.args.to.now.items placed.placed)),
-      spread_found i.file H opened c.args.name.now found.request.user found.ensures.user
-          c.args.variable.now c.args.condition.now _ question refl placed.found,
-    )
-
-pub invariant_of-market-in-Err : goal.invariant_of-market-in-Err
-invariant_of-market-in-Err g c =
-    let i = c.market.inside in let made = c.placed_bounds in
-    refiled _ _ _ _ _ _ _ _ _ _ _ _ g.P.Engine.stands_for g.A.Engine.stands_for g.A.Engine.plan_for
-    _ _ _ _
-    _ _ _ _
-    (kept_unquoted g.P.Engine.stands_for g.A.Engine.stands_for g.A.Engine.plan_for i.file i.prices
-    c.refuse_stopped.new.prices i.rows i.plan i.users made.new.users i.ledger i.journal i.payments
-    i.till
-    c.market.invariant (λ m stands. c.refuse_stopped.ensures.kept m (made.ensures.prices m stands))
-    made.ensures.names made.ensures.quotes made.ensures.held)
-
-pub returns-in-Err-clause-same : goal.returns-in-Err-clause-same
-returns-in-Err-clause-same g c =
-    let i = c.market.inside in
-    only_asked i.file i.ledger i.journal i.users c.placed_bounds.new.users
-    c.placed_bounds.ensures.quotes c.args.market.now c.market.view_is
-
-pub returns-in-Err-clause-evidence : goal.returns-in-Err-clause-evidence
-returns-in-Err-clause-evidence g c =
-    let i = c.market.inside in let found = c.in_ok-request in let H = i.journal.history in
-    let opened = is_open g.P.Engine.stands_for g.A.Engine.stands_for g.A.Engine.plan_for i.file
-    i.prices i.rows i.plan i.users i.ledger i.journal i.payments i.till c.market.invariant in
-    let spread = spread_in found.request.question in
-    let command = Spread c.args.name.now c.args.variable.now c.args.condition.now c.args.to.now
-    c.args.at in
-    let question = question_for i.file H c.args.variable.now c.as_slice.result.now
-    c.args.condition.now spread c.as_slice.ensures.value found.ensures.question in
-    let none = found.ensures.refusal c.args.condition.now c.args.to.now
-    (sym c.as_slice.ensures.value) (sym c.as_slice-2.ensures.value) in
-    let one_each = one_share_each g.P.Engine.stands_for g.A.Engine.stands_for g.A.Engine.plan_for
-    i.file i.prices i.rows i.plan i.users i.ledger i.journal i.payments i.till c.market.invariant
-    i.prices i.users c.args.name.now found.request.user found.ensures.user c.args.variable.now
-    c.args.condition.now spread question c.args.to.now c.args.at none in
-    let stopped = subst (λ (Xs : List ℕ). IsStoppedAnew i.file.net i.file.tree H
-    found.request.user spread Xs c.in-Err.why) c.as_slice-3.ensures.value c.in-Err.ensures.placed
-    in
-    let refused = subst (λ (words : List PairText). IsRefusedFor i.file.net H c.args.variable.now
-    words spread c.in-Err.why c.refuse_stopped.result) c.as_slice-in-Err.ensures.value
-    (c.refuse_stopped.ensures.refusal i.file.tree H
-    (c.in-Err.ensures.prices _ c.market.invariant.prices_stand) opened
-    (anew_may_stop i.file.net i.file.tree H found.request.user spread c.args.to.now.items one_each
-    c.in-Err.why stopped)) in
-    rw (← c.market.view_is) (sym (stopped_by_states (market_of i.file) H command
-    c.refuse_stopped.result none
-    (stopped_first i.file.net i.file.tree H found.request.user spread c.args.variable.now
-    c.args.condition.now.items question.named opened c.args.to.now.items c.in-Err.why
-    c.refuse_stopped.result stopped refused)))
+pub returns-clause-evidence : goal.returns-clause-evidence
+returns-clause-evidence g c =
+    let its = c.in_ok-request.ensures in let made = c.placed_bounds-found in
+    spread_told c.market.invariant c.market.view_is c.args.condition.now
+    c.as_slice-words.ensures.value c.in_ok-request.request its.user its.question its.home
+    made.ensures.prices made.result c.args.to.now c.as_slice-shares.ensures.value c.args.at
+    (its.refusal c.args.condition.now c.args.to.now (sym c.as_slice-words.ensures.value)
+    (sym c.as_slice-shares.ensures.value)) made.ensures.placed c.told.result c.told.ensures.told
