@@ -18,12 +18,12 @@ use Rattle.mk_exact.specs.Market.{Market}
 use Rattle.mk_rules.specs.Transcript.{Standing}
 use Rattle.mk_session.specs.Transcript.{Start, Transcript}
 use Rattle.mk_session.specs.Outcome.{Adds, IsBroken, IsWholeTo, HasKeepCauses}
-use Rattle.mk_session.specs.inner.Progress.{Gathers, AreGathered, IsBetween, IsSoFar, IsEnded}
+use Rattle.mk_session.specs.inner.Progress.{AreGathered, IsBetween, IsSoFar, IsEnded, ServesTo}
 use Rattle.mk_session.specs.declared.waiting.TellFault.{TellFault}
 use Rattle.mk_session.specs.declared.waiting.TellFault.TheVariants.{Disk, Sink}
 use Rattle.mk_session.specs.inner.Telling.{HasTellCause, CountsNoFault, ended_by}
 use Rattle.mk_session.proofs.Answering.{no_more, transcript_of, transcript_stands}
-use Rattle.mk_session.proofs.Underway.{rest_of, are_whole, so_far_next, still_so_far}
+use Rattle.mk_session.proofs.Underway.{rest_of, are_whole, so_far_next}
 
 -- the transcript of the lines that are done
 transcript_so_far : (start : Start) (all : List ℕ) (cutting : Cutting) (source : Option (List ℕ))
@@ -53,6 +53,18 @@ so_far_stands start all cutting source now before written waits empty far =
 pub second_empty : (xs ys : List ℕ) → xs ++ ys ≡ [] → ys ≡ []
 second_empty [] ys e = e
 second_empty (x ∷ xs) ys e = absurd (cc)
+
+-- a run ends where nothing more is written
+ended_so : (status : Status) (start : Start) (now : Standing) (all bytes left : List ℕ)
+    (rest before written after : Option (List ℕ)) → rest ≡ Some left
+    → written ≡ append_known before bytes → after ≡ written
+    → ServesTo status start now all left bytes → IsEnded status start now all rest before after
+ended_so status start now all bytes left rest before written after told added still serves =
+    record {
+      rest = left;
+      told = told;
+      output = record { bytes = bytes; added = still ∙ added; holds = serves };
+    }
 
 pub ended_done : (start : Start) (all : List ℕ) (old new : Cutting)
     (source rest : Option (List ℕ)) (now : Standing) (before written after : Option (List ℕ))
@@ -91,24 +103,17 @@ pub ended_read_fault : (start : Start) (all : List ℕ) (old new : Cutting)
 ended_read_fault start all old new source rest now before written after waits none_waits far none
     stops still =
     let r = rest_of stops.part far.left rest (sym far.known ∙ stops.taken) in
-    record {
-      rest = r.rest;
-      told = r.told;
-      output = record {
-        bytes = far.answers.bytes;
-        added = still ∙ far.answers.added;
-        holds = record {
-          whole = far.done;
-          part = stops.part;
-          bytes = far.bytes ∙ ap (λ (left : List ℕ). far.done ++ left) r.parts;
-          lines = are_whole old.last far.done far.left none far.between;
-          no_lf = stops.no_lf;
-          within = far.within;
-          transcript = transcript_so_far start all old source now before written waits none_waits
-              far;
-        };
-      };
-    }
+    ended_so ReadFault start now all far.answers.bytes r.rest rest before written after r.told
+    far.answers.added still
+    (record {
+      whole = far.done;
+      part = stops.part;
+      bytes = far.bytes ∙ ap (λ (left : List ℕ). far.done ++ left) r.parts;
+      lines = are_whole old.last far.done far.left none far.between;
+      no_lf = stops.no_lf;
+      within = far.within;
+      transcript = transcript_so_far start all old source now before written waits none_waits far;
+    })
 
 pub past_of : (given lines spent bytes most_lines most_bytes size : ℕ) → given ≡ lines
     → spent ≡ bytes
@@ -129,27 +134,20 @@ ended_too_many start all old new source rest now before written after waits none
     let much : IsTooMuch old (over.part ++ r.rest) =
     subst (λ (left : List ℕ). IsTooMuch old left) r.parts
     (subst (λ (o : Option (List ℕ)). IfSome o (IsTooMuch old)) far.known over.much) in
-    record {
-      rest = r.rest;
-      told = r.told;
-      output = record {
-        bytes = far.answers.bytes;
-        added = still ∙ far.answers.added;
-        holds = record {
-          whole = far.done;
-          part = over.part;
-          bytes = far.bytes ∙ ap (λ (left : List ℕ). far.done ++ left) r.parts;
-          lines = are_whole old.last far.done far.left none far.between;
-          more = much.more;
-          past = past_of old.given (length (stream_lines far.done)) old.spent (length far.done)
-              max_stream_lines max_stream_bytes
-              (first_size (over.part ++ r.rest)) far.given far.spent much.past;
-          within = far.within;
-          transcript = transcript_so_far start all old source now before written waits none_waits
-              far;
-        };
-      };
-    }
+    ended_so TooMany start now all far.answers.bytes r.rest rest before written after r.told
+    far.answers.added still
+    (record {
+      whole = far.done;
+      part = over.part;
+      bytes = far.bytes ∙ ap (λ (left : List ℕ). far.done ++ left) r.parts;
+      lines = are_whole old.last far.done far.left none far.between;
+      more = much.more;
+      past = past_of old.given (length (stream_lines far.done)) old.spent (length far.done)
+          max_stream_lines max_stream_bytes (first_size (over.part ++ r.rest)) far.given far.spent
+          much.past;
+      within = far.within;
+      transcript = transcript_so_far start all old source now before written waits none_waits far;
+    })
 
 -- the bytes before a place are whole lines, or none is left behind it
 pub whole_or_none : (last : Option Next) (done left left_parts : List ℕ) → left ≡ left_parts
@@ -271,55 +269,6 @@ pub breaks_after : {T : Type 0} (said : Result T TellFault) (ended : Option Stat
 breaks_after said ended is_at line old new source rest now then written after waited e gives cut =
     breaks_off said ended is_at old (gives.piece ++ new.left) source rest now then written after
     waited e (gives.taken ∙ prepend_known_twice gives.piece new.left rest) cut
-
--- what waits was told before: the run goes on from there
-pub goes_on_from : (ended : Option Status) (is_at : Market → Type 0) (old new : Cutting)
-    (source rest : Option (List ℕ)) (now then : Standing)
-    (written mid after : Option (List ℕ)) (waited left waits : List ℕ) → Gathers written mid waited
-    [] left
-    → IfNone ended ((start : Start) (all : List ℕ) (before : Option (List ℕ))
-    → is_at start.market → IsSoFar start all old source now before mid left
-    → IsSoFar start all new rest then before after waits)
-    → IfNone ended ((start : Start) (all : List ℕ) (before : Option (List ℕ))
-    → is_at start.market → IsSoFar start all old source now before written waited
-    → IsSoFar start all new rest then before after waits)
-goes_on_from None is_at old new source rest now then written mid after waited left waits gathers
-    next =
-    λ start all before here far. next start all before here (still_so_far start all old source now
-    before written mid waited left gathers far)
-goes_on_from (Some end) is_at old new source rest now then written mid after waited left waits
-    gathers next = tt
-
-pub ends_from : (ended : Option Status) (is_at : Market → Type 0) (cutting : Cutting)
-    (source rest : Option (List ℕ)) (now then : Standing)
-    (written mid after : Option (List ℕ)) (waited left : List ℕ) → Gathers written mid waited []
-    left
-    → IfSome ended (λ end. (start : Start) (all : List ℕ) (before : Option (List ℕ))
-    → is_at start.market → IsSoFar start all cutting source now before mid left
-    → IsEnded end start then all rest before after)
-    → IfSome ended (λ end. (start : Start) (all : List ℕ) (before : Option (List ℕ))
-    → is_at start.market → IsSoFar start all cutting source now before written waited
-    → IsEnded end start then all rest before after)
-ends_from None is_at cutting source rest now then written mid after waited left gathers next = tt
-ends_from (Some end) is_at cutting source rest now then written mid after waited left gathers
-    next =
-    λ start all before here far. next start all before here (still_so_far start all cutting source
-    now before written mid waited left gathers far)
-
-pub causes_from : (ended : Option Status)
-    (disk disk_mid disk_now inputs inputs_now sink sink_mid sink_now : ℕ)
-    → disk_mid ≡ disk → sink_mid ≡ sink
-    → MatchOption ended (CountsNoFault disk_mid disk_now inputs inputs_now sink_mid sink_now)
-    (λ end. HasKeepCauses end disk_mid disk_now inputs inputs_now sink_mid sink_now)
-    → MatchOption ended (CountsNoFault disk disk_now inputs inputs_now sink sink_now)
-    (λ end. HasKeepCauses end disk disk_now inputs inputs_now sink sink_now)
-causes_from ended disk disk_mid disk_now inputs inputs_now sink sink_mid sink_now same_disk
-    same_sink causes =
-    subst (λ (n : ℕ). MatchOption ended (CountsNoFault n disk_now inputs inputs_now sink sink_now)
-    (λ end. HasKeepCauses end n disk_now inputs inputs_now sink sink_now)) same_disk
-    (subst (λ (n : ℕ). MatchOption ended
-    (CountsNoFault disk_mid disk_now inputs inputs_now n sink_now)
-    (λ end. HasKeepCauses end disk_mid disk_now inputs inputs_now n sink_now)) same_sink causes)
 
 -- the causes of a turn that read a line and said what it answers
 pub causes_after : {T : Type 0} (said : Result T TellFault) (ended : Option Status)

@@ -1,7 +1,10 @@
 -- What waits to be written, and what is written of it.
-use Rattle.std.proofs.Common.{◌≡◌, ℕ, ◌+◌, ◌≤◌, List, [], ◌++◌, length, Option, Result, Ok, Err}
-use Rattle.std.proofs.Common.{OnOk, inl, inr, sym, ap, ◌∙◌, arith, append_assoc}
-use Rattle.mk_io.specs.Outside.{append_known}
+use Rattle.std.proofs.Common.{◌≡◌, ℕ, ◌+◌, ◌<◌, ◌≤◌, List, [], ◌++◌, length, Option, Result, Ok}
+use Rattle.std.proofs.Common.{Err, true, false, OnOk, ◌⊎◌, inl, inr, refl, sym, ap, ◌∙◌, arith}
+use Rattle.std.proofs.Common.{append_assoc}
+use Rattle.std.proofs.Math.Dec.{leb}
+use Rattle.std.proofs.lemmas.Bool.{cases_lt, le-leb, lt-leb}
+use Rattle.std.specs.Prelude.{Bool, IsTrue, ◌↔◌, None}
 use Rattle.mk_io.specs.Stream.{StreamLine}
 use Rattle.mk_io.specs.Cutting.{Cutting, HoldsLine}
 use Rattle.mk_io.proofs.Told.{append_known_none}
@@ -9,6 +12,9 @@ use Rattle.mk_exact.specs.Market.{Market}
 use Rattle.mk_rules.specs.Transcript.{Standing}
 use Rattle.mk_session.specs.Transcript.{AreAnswered}
 use Rattle.mk_session.specs.inner.Progress.{Gathers, AreGathered, IsReady, IsSoundAt}
+use Rattle.mk_session.specs.declared.waiting.TellFault.{TellFault}
+use Rattle.mk_session.specs.declared.waiting.TellFault.TheVariants.{Disk, Sink}
+use Rattle.mk_session.specs.inner.Telling.{ended_by}
 use Rattle.mk_session.proofs.Answering.{no_more}
 
 -- nothing was written
@@ -21,30 +27,25 @@ gathers_none before waited = record {
       no_more waited;
 }
 
--- all was written
-pub gathers_all : {T E : Type 0} (said : Result T E) (before after : Option (List ℕ))
-    (waited waits : List ℕ)
-    → OnOk said (after ≡ append_known before waited) → OnOk said (waits ≡ [])
-    → OnOk said (Gathers before after waited [] waits)
-gathers_all (Ok v) before after waited waits whole none =
-    record {
-      gone = waited;
-      added = whole;
-      parts = ap (λ (bytes : List ℕ). waited ++ bytes)
-          (sym none);
-    }
-gathers_all (Err e) before after waited waits whole none = tt
+-- there is room for a line where it fits, or where nothing waits
+pub room_of : (size room : ℕ) (before after : List ℕ) (most : ℕ) → room + length before ≡ most
+    → size ≤ most → (leb size room ≡ true → after ≡ before) → (leb size room ≡ false → after ≡ [])
+    → length after + size ≤ most
+room_of size room before after most is fits stays none = at (cases_lt room size)
+  where
+    at : ((room < size) ⊎ (size ≤ room)) → length after + size ≤ most
+    at (inl less) = omega (arith, ap length (none (lt-leb size room less)))
+    at (inr more) = omega (arith, ap length (stays (le-leb size room more)))
 
-pub room_of_none : {T E : Type 0} (said : Result T E) (waits : List ℕ) (size most : ℕ) → size ≤ most
-    → OnOk said (waits ≡ [])
-    → OnOk said (length waits + size ≤ most)
-room_of_none (Ok v) waits size most fits none = omega (arith, ap length none)
-room_of_none (Err e) waits size most fits none = tt
-
-pub ready_of_none : {T E : Type 0} (said : Result T E) (cutting : Cutting) (waits : List ℕ)
-    → OnOk said (waits ≡ []) → OnOk said (IsReady cutting waits)
-ready_of_none (Ok v) cutting waits none = inr none
-ready_of_none (Err e) cutting waits none = tt
+-- before a line is taken, it is there without a read, or nothing waits
+pub ready_told : {T : Type 0} (said : Result T TellFault) (may_wait : Bool) (cutting : Cutting)
+    (waits : List ℕ) → (IsTrue may_wait ↔ HoldsLine cutting)
+    → (may_wait ≡ false → OnOk said (waits ≡ []))
+    → None ≡ ended_by said → IsReady cutting waits
+ready_told (Ok v) true cutting waits holds none e = inl (holds.0 refl)
+ready_told (Ok v) false cutting waits holds none e = inr (none refl)
+ready_told (Err Disk) may_wait cutting waits holds none e = absurd (cc)
+ready_told (Err Sink) may_wait cutting waits holds none e = absurd (cc)
 
 -- where the next line is not there, nothing waits
 pub none_waits : (cutting : Cutting) (waits : List ℕ) → IsReady cutting waits

@@ -6,14 +6,14 @@ use Rattle.std.proofs.lemmas.List.{take_all}
 use Rattle.std.proofs.Math.Seq.{take-append_seam}
 use Rattle.mk_io.specs.declared.status.Status.{Status}
 use Rattle.mk_io.specs.Outside.{prepend_known, IsAtEnd}
-use Rattle.mk_io.specs.Stream.{max_stream_lines}
+use Rattle.mk_io.specs.Stream.{StreamLine, max_stream_lines}
 use Rattle.mk_io.specs.Cutting.{Cutting, fresh, GoesOn}
 use Rattle.mk_io.proofs.Told.{prepend_known_none}
 use Rattle.mk_exact.specs.Market.{Market}
 use Rattle.mk_market.specs.Trading.{Trading, IsAt}
 use Rattle.mk_session.specs.Transcript.{Start}
 use Rattle.mk_session.specs.Outcome.{HasKeepCauses}
-use Rattle.mk_session.specs.inner.Progress.{IsSoFar, IsBegun}
+use Rattle.mk_session.specs.inner.Progress.{IsPlaced, AreSaid, IsSoFar, IsBegun}
 use Rattle.mk_session.specs.Opening.{IsTakenWithin}
 use Rattle.mk_session.specs.inner.Telling.{CountsNoFault}
 use Rattle.mk_session.specs.inner.Loading.{IsTaken}
@@ -37,28 +37,36 @@ pub record IsGoing {Own : Type 0} (begun trading : Trading Own) (commands : Opti
       → IsBegun start begun all commands before headed
       → IsSoFar start all lines source trading.standing before written waits
 
-pub far_at_start : {Own : Type 0} (start : Start) (trading : Trading Own) (all : List ℕ)
-    (source before written : Option (List ℕ)) (waits : List ℕ)
-    → IsBegun start trading all source before written → waits ≡ []
-    → IsSoFar start all fresh source trading.standing before written waits
-far_at_start start trading all source before written waits begun empty = record {
+-- before the first line
+pub placed_at_start : (all : List ℕ) (source : Option (List ℕ)) (P : List StreamLine → Type 0)
+    → source ≡ Some all → P [] → IsPlaced all fresh source P
+placed_at_start all source P told holds = record {
   done = [];
   left = all;
   bytes = refl;
-  known = prepend_known_none source ∙ begun.told;
+  known = prepend_known_none source ∙ told;
   between = inl refl;
-  answers = record {
-    begins = begun.begins;
-    bytes = start.head;
-    added = begun.headed;
-    answers = [];
-    answered = none_answered start.market start.standing trading.standing begun.standing;
-    printed = ap (λ (rest : List ℕ). start.head ++ rest) empty;
-  };
+  answers = holds;
   given = refl;
   spent = refl;
   within = none_within_stream;
 }
+
+pub far_at_start : {Own : Type 0} (start : Start) (trading : Trading Own) (all : List ℕ)
+    (source before written : Option (List ℕ)) (waits : List ℕ)
+    → IsBegun start trading all source before written → waits ≡ []
+    → IsSoFar start all fresh source trading.standing before written waits
+far_at_start start trading all source before written waits begun empty =
+    placed_at_start all source
+    (λ lines. AreSaid start lines trading.standing before written waits) begun.told
+    (record {
+      begins = begun.begins;
+      bytes = start.head;
+      added = begun.headed;
+      answers = [];
+      answered = none_answered start.market start.standing trading.standing begun.standing;
+      printed = ap (λ (rest : List ℕ). start.head ++ rest) empty;
+    })
 
 -- what a turn counts is what the run has counted, since no fault was counted before
 pub causes_of_turn : (end : Status) (disk_before disk disk_now inputs_before inputs inputs_now

@@ -7,9 +7,10 @@ pub mod Endings
 pub mod Spoken
 pub mod Records
 pub mod Keeping
+pub mod Telling
 pub mod Held
-pub mod Turns
 pub mod Going
+pub mod Turns
 pub mod Serving
 pub mod Completing
 pub mod Handing

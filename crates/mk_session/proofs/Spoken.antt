@@ -24,7 +24,7 @@ use Rattle.mk_session.specs.Texts.{reply_line}
 use Rattle.mk_session.specs.Transcript.{Asks, AreAnswered}
 use Rattle.mk_session.specs.inner.Progress.{IsSoundAt}
 use Rattle.mk_session.specs.Left.{records_of, LeavesSince}
-use Rattle.mk_session.specs.inner.Keeping.{IsSpoken, AreSpoken, HoldsSince, Tells}
+use Rattle.mk_session.specs.inner.Keeping.{IsSpoken, AreSpoken, AreMade, HoldsSince, Tells}
 use Rattle.mk_session.specs.inner.Keeping.{SpeaksAndTells}
 use Rattle.mk_session.specs.declared.waiting.TellFault.{TellFault}
 use Rattle.mk_session.specs.declared.waiting.TellFault.TheVariants.{Disk}
@@ -139,6 +139,32 @@ text_of_line reply printed is =
     ap (λ (bytes : List ℕ). take (length bytes - 1) bytes) is
     ∙ ap (λ (n : ℕ). take n (reply_line reply)) size
     ∙ take-append_seam (reply_text reply) (10 ∷ [])
+
+-- the same reply, where its line was read and printed elsewhere
+pub spoken_as : (market : Market) (old : Standing) (heard line : List ℕ) (new : Standing)
+    (printed output : List ℕ) → heard ≡ line → output ≡ printed
+    → IsSpoken market old (text heard) new printed → IsSpoken market old (text line) new output
+spoken_as market old heard line new printed output e f spoken =
+    subst (λ (bytes : List ℕ). IsSpoken market old (text line) new bytes) (sym f)
+    (subst (λ (bytes : List ℕ). IsSpoken market old (text bytes) new printed) e spoken)
+
+-- the records of what it changed
+pub made_when_spoken : (market : Market) (old : Standing) (line : List ℕ) (new : Standing)
+    (printed output : List ℕ) (before : ℕ) → before ≡ length old.history → output ≡ printed
+    → (spoken : IsSpoken market old (text line) new output)
+    → AreMade (length new.history) before line printed
+    (records_of (change_of (present market old.history) old.history spoken.asked spoken.reply))
+made_when_spoken market old line new printed output before was e spoken =
+    let here = present market old.history in
+    record {
+      none = λ same. ap records_of (no_change here old new spoken.asked spoken.reply spoken.next
+          (same ∙ was));
+      one = λ other.
+          one_record here old new line spoken.asked spoken.reply spoken.asks spoken.next
+          (λ same. other (same ∙ sym was))
+          ∙ ap (λ (reply : List ℕ). (line ++ 10 ∷ reply) ∷ [])
+          (sym (text_of_line spoken.reply printed (sym e ∙ spoken.printed)));
+    }
 
 -- a keeper that keeps nothing holds changes that it did not take
 pub spared : (holds : List (List ℕ) → List (List ℕ) → Type 0)

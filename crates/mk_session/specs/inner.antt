@@ -3,3 +3,4 @@ pub mod Loading
 pub mod Progress
 pub mod Telling
 pub mod Keeping
+pub mod Turning

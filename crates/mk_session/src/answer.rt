@@ -2,11 +2,11 @@
 
 ghost use Rattle.std.specs.Prelude.{◌≡◌, ℕ, ◌+◌, ◌^◌, ◌<◌, ◌≤◌, ◌==◌, List, [], ◌∷◌, ◌++◌, length};
 ghost use Rattle.std.specs.Prelude.{true, false, Option, None, Some, OnOk, OnErr};
-ghost use Rattle.std.specs.Prelude.{IfNone, IfSome, MatchOption, MatchResult};
+ghost use Rattle.std.specs.Prelude.{MatchResult};
 ghost use Rattle.std.specs.List.{list_all};
 ghost use Rattle.mk_io.specs.Outside.{AddsFront};
 ghost use Rattle.mk_disk.specs.Disk.{HasCause};
-ghost use Rattle.mk_io.specs.Stream.{text, long, max_line_bytes, max_stream_lines};
+ghost use Rattle.mk_io.specs.Stream.{text, max_line_bytes, max_stream_lines};
 ghost use Rattle.mk_io.specs.Cutting.{fresh, GoesOn};
 ghost use Rattle.mk_session.specs.Texts.{head_of, reply_line};
 ghost use Rattle.mk_exact.specs.Market.{Market};
@@ -18,16 +18,17 @@ ghost use Rattle.mk_session.specs.Begins.{CanBegin};
 ghost use Rattle.mk_session.specs.Outcome.{IsServed, IsRunFrom, HasKeepCauses, EndsRun};
 ghost use Rattle.mk_session.specs.Priced.{IsPriced};
 ghost use Rattle.mk_session.specs.Left.{LeavesSince, IsLeft};
-ghost use Rattle.mk_session.specs.inner.Progress.{Gathers, AreGathered, IsReady, IsSoFar};
+ghost use Rattle.mk_session.specs.inner.Progress.{AreGathered, IsReady};
 ghost use Rattle.mk_session.specs.inner.Progress.{IsBegun, IsEnded, IsSoundAt, IsPrinted};
-ghost use Rattle.mk_session.specs.inner.Telling.{HasTellCause, CountsNoFault, ended_by};
-ghost use Rattle.mk_session.specs.inner.Keeping.{IsSpoken, AreSpoken, Tells, SpeaksAndTells};
-ghost use Rattle.mk_session.specs.inner.Keeping.{HoldsSince, IsHeldSoFar};
+ghost use Rattle.mk_session.specs.inner.Telling.{HasTellCause, ended_by};
+ghost use Rattle.mk_session.specs.inner.Keeping.{IsSpoken, AreSpoken, AreMade, IsTold};
+ghost use Rattle.mk_session.specs.inner.Keeping.{HoldsSince, SpeaksAndTells};
+ghost use Rattle.mk_session.specs.inner.Turning.{Turns, moment, holding, leaving, ended_at};
 
 use crate::change::take_change;
 use crate::market::TreeMarket;
 use crate::print::{LineBuffer, print_head, print_reply_line};
-use crate::waiting::{TellFault, put_line, write_before_read};
+use crate::waiting::{TellFault, put_line, write_unless};
 use mk_command::{CommandRef, Words, read_command};
 use mk_disk::DiskFailed;
 use mk_io::{Inputs, Lines, Next, Sink, Status, write_all};
@@ -245,71 +246,15 @@ impl<J> Conversation<J> {
             (I.faults inputs.old) (I.faults inputs.new) (S.faults out.old) (S.faults out.new) }
         ensures ends { EndsRun result }
     {
-        loop {
-            if let Some(end) = self.take_turn(alloc, market, inputs, out, disk) {
+        'turns: loop {
+            let may_wait = self.lines.holds_line();
+            let told = write_unless(may_wait, &mut self.waiting, &mut self.keeper, out, disk);
+            if let Some(end) = end_after(told) {
                 return end;
             }
-        }
-    }
-
-    /// Answers the next line, and keeps and writes what waits before it where more has to be read.
-    /// None where the run goes on; else how it ends.
-    fn take_turn<D, I: Inputs, S: Sink>(
-        &mut self,
-        alloc: Global,
-        market: &mut TreeMarket,
-        inputs: &mut I,
-        out: &mut S,
-        disk: &mut D,
-    ) -> Option<Status>
-    where
-        J: Keeper<D>,
-        requires goes_on { GoesOn self.old.lines.last }
-        requires ready { (n : ℕ) × (n + 1 < 2 ^ 40) × J.is_ready self.old.keeper disk.old n }
-        ensures market { (start : Market) → IsAt start market.old → IsAt start market.new }
-        ensures goes_on { IfNone result (GoesOn self.new.lines.last) }
-        ensures counts { IfNone result (self.new.lines.given ≡ self.old.lines.given + 1) }
-        ensures within { IfNone result (self.new.lines.given ≤ max_stream_lines) }
-        ensures ready { (n : ℕ) → n + 1 < 2 ^ 40 → J.is_ready self.old.keeper disk.old n →
-            IfNone result (J.is_ready self.new.keeper disk.new (n + 1)) }
-        ensures so_far { IfNone result ((start : Start) (all : List ℕ) (before : Option (List ℕ)) →
-            IsAt start.market market.old →
-            IsSoFar start all self.old.lines (I.commands inputs.old)
-            market.old.standing before (S.written out.old) self.old.waiting.bytes →
-            IsSoFar start all self.new.lines (I.commands inputs.new)
-            market.new.standing before (S.written out.new) self.new.waiting.bytes) }
-        ensures ended { IfSome result (λ end. (start : Start) (all : List ℕ)
-            (before : Option (List ℕ)) → IsAt start.market market.old →
-            IsSoFar start all self.old.lines (I.commands inputs.old)
-            market.old.standing before (S.written out.old) self.old.waiting.bytes →
-            IsEnded end start market.new.standing all (I.commands inputs.new) before
-            (S.written out.new)) }
-        ensures kept { (start : Start) (begun : D) (name bytes all : List ℕ)
-            (before : Option (List ℕ)) (kept : List (List ℕ)) → IsAt start.market market.old →
-            IsHeldSoFar start all self.old.lines (I.commands inputs.old)
-            market.old.standing before (S.written out.old) self.old.waiting.bytes
-            kept (HoldsSince (J.holds self.old.keeper disk.old name bytes)
-            (J.passes begun disk.old name bytes) (length kept)) →
-            MatchOption result
-            (IsHeldSoFar start all self.new.lines (I.commands inputs.new)
-            market.new.standing before (S.written out.new) self.new.waiting.bytes
-            kept (HoldsSince (J.holds self.new.keeper disk.new name bytes)
-            (J.passes begun disk.new name bytes) (length kept)))
-            (λ end. IsLeft start all before (S.written out.new) kept
-            (LeavesSince (J.leaves disk.new name bytes) (J.passes begun disk.new name bytes)
-            (length kept))) }
-        ensures opened { I.market inputs.new ≡ I.market inputs.old }
-        ensures causes { MatchOption result
-            (CountsNoFault (J.faults disk.old) (J.faults disk.new)
-            (I.faults inputs.old) (I.faults inputs.new) (S.faults out.old) (S.faults out.new))
-            (λ end. HasKeepCauses end (J.faults disk.old) (J.faults disk.new)
-            (I.faults inputs.old) (I.faults inputs.new) (S.faults out.old) (S.faults out.new)) }
-        ensures ends { IfSome result EndsRun }
-    {
-        let told = write_before_read(&self.lines, &mut self.waiting, &mut self.keeper, out, disk);
-        match told {
-            Ok(()) => self.answer_next(alloc, market, inputs, out, disk),
-            Err(_) => end_after(told),
+            if let Some(end) = self.answer_next(alloc, market, inputs, out, disk) {
+                return end;
+            }
         }
     }
 
@@ -329,51 +274,24 @@ impl<J> Conversation<J> {
         requires none_waits { IsReady self.old.lines self.old.waiting.bytes }
         requires ready { (n : ℕ) × (n + 1 < 2 ^ 40) × J.is_ready self.old.keeper disk.old n }
         ensures market { (start : Market) → IsAt start market.old → IsAt start market.new }
-        ensures goes_on { IfNone result (GoesOn self.new.lines.last) }
-        ensures counts { IfNone result (self.new.lines.given ≡ self.old.lines.given + 1) }
-        ensures within { IfNone result (self.new.lines.given ≤ max_stream_lines) }
-        ensures ready { (n : ℕ) → n + 1 < 2 ^ 40 → J.is_ready self.old.keeper disk.old n →
-            IfNone result (J.is_ready self.new.keeper disk.new (n + 1)) }
-        ensures so_far { IfNone result ((start : Start) (all : List ℕ) (before : Option (List ℕ)) →
-            IsAt start.market market.old →
-            IsSoFar start all self.old.lines (I.commands inputs.old)
-            market.old.standing before (S.written out.old) self.old.waiting.bytes →
-            IsSoFar start all self.new.lines (I.commands inputs.new)
-            market.new.standing before (S.written out.new) self.new.waiting.bytes) }
-        ensures ended { IfSome result (λ end. (start : Start) (all : List ℕ)
-            (before : Option (List ℕ)) → IsAt start.market market.old →
-            IsSoFar start all self.old.lines (I.commands inputs.old)
-            market.old.standing before (S.written out.old) self.old.waiting.bytes →
-            IsEnded end start market.new.standing all (I.commands inputs.new) before
-            (S.written out.new)) }
-        ensures kept { (start : Start) (begun : D) (name bytes all : List ℕ)
-            (before : Option (List ℕ)) (kept : List (List ℕ)) → IsAt start.market market.old →
-            IsHeldSoFar start all self.old.lines (I.commands inputs.old)
-            market.old.standing before (S.written out.old) self.old.waiting.bytes
-            kept (HoldsSince (J.holds self.old.keeper disk.old name bytes)
-            (J.passes begun disk.old name bytes) (length kept)) →
-            MatchOption result
-            (IsHeldSoFar start all self.new.lines (I.commands inputs.new)
-            market.new.standing before (S.written out.new) self.new.waiting.bytes
-            kept (HoldsSince (J.holds self.new.keeper disk.new name bytes)
-            (J.passes begun disk.new name bytes) (length kept)))
-            (λ end. IsLeft start all before (S.written out.new) kept
-            (LeavesSince (J.leaves disk.new name bytes) (J.passes begun disk.new name bytes)
-            (length kept))) }
+        ensures turn { Turns result (λ start. IsAt start market.old)
+            (moment J.faults I.commands I.faults S.written S.faults self.old.lines
+            market.old.standing self.old.waiting.bytes disk.old inputs.old out.old)
+            (moment J.faults I.commands I.faults S.written S.faults self.new.lines
+            market.new.standing self.new.waiting.bytes disk.new inputs.new out.new)
+            (J.is_ready self.old.keeper disk.old) (J.is_ready self.new.keeper disk.new)
+            (holding J.holds J.passes self.old.keeper disk.old)
+            (holding J.holds J.passes self.new.keeper disk.new)
+            (leaving J.leaves J.passes disk.new) }
         ensures opened { I.market inputs.new ≡ I.market inputs.old }
-        ensures causes { MatchOption result
-            (CountsNoFault (J.faults disk.old) (J.faults disk.new)
-            (I.faults inputs.old) (I.faults inputs.new) (S.faults out.old) (S.faults out.new))
-            (λ end. HasKeepCauses end (J.faults disk.old) (J.faults disk.new)
-            (I.faults inputs.old) (I.faults inputs.new) (S.faults out.old) (S.faults out.new)) }
-        ensures ends { IfSome result EndsRun }
     {
         match self.lines.next(inputs) {
             Next::Line => end_after(self.answer_text(alloc, market, out, disk)),
-            Next::Long => end_after(self.answer_long(out, disk)),
-            Next::End => Some(Status::Done),
-            Next::ReadFault => Some(Status::ReadFault),
-            Next::TooMany => Some(Status::TooMany),
+            Next::Long => {
+                let long = Reply::Refused { why: Refusal::Long };
+                end_after(self.say(&long, out, disk))
+            }
+            stop => end_by(stop),
         }
     }
 
@@ -463,6 +381,40 @@ impl<J> Conversation<J> {
         let before = market.history().length();
         let words = &mut self.words;
         print_answer(alloc, market, self.lines.line(), words, &mut self.line);
+        self.keep_change(market, before, disk)
+    }
+
+    /// Takes the change that the line made whose answer is printed, where the history of the market
+    /// is not as long as before.
+    fn keep_change<D>(
+        &mut self,
+        market: &TreeMarket,
+        before: u32,
+        disk: &mut D,
+    ) -> Result<(), DiskFailed>
+    where
+        J: Keeper<D>,
+        requires short { length self.old.lines.line ≤ max_line_bytes }
+        requires some { 1 ≤ length self.old.line.bytes }
+        requires ready { (n : ℕ) × (n < 2 ^ 40) × J.is_ready self.old.keeper disk.old n }
+        ensures lines { self.new.lines ≡ self.old.lines }
+        ensures waiting { self.new.waiting ≡ self.old.waiting }
+        ensures line { self.new.line ≡ self.old.line }
+        ensures ready { (n : ℕ) → n < 2 ^ 40 → J.is_ready self.old.keeper disk.old n →
+            OnOk result (J.is_ready self.new.keeper disk.new (n + 1)) }
+        ensures cause { HasCause (J.faults disk.old) (J.faults disk.new) result }
+        ensures taken { (begun : D) (name bytes : List ℕ) (first least : ℕ)
+            (all records : List (List ℕ)) →
+            HoldsSince (J.holds self.old.keeper disk.old name bytes)
+            (J.passes begun disk.old name bytes) first least all →
+            AreMade (length market.now.standing.history) before self.old.lines.line
+            self.old.line.bytes records →
+            MatchResult result
+            (λ _. HoldsSince (J.holds self.new.keeper disk.new name bytes)
+            (J.passes begun disk.new name bytes) first least (all ++ records))
+            (λ _. LeavesSince (J.leaves disk.new name bytes) (J.passes begun disk.new name bytes)
+            first (all ++ records) least) }
+    {
         if self.keeper.keeps() {
             if market.history().length() != before {
                 let line = self.lines.line();
@@ -473,58 +425,15 @@ impl<J> Conversation<J> {
         Ok(())
     }
 
-    /// Answers a line that is too long, as any market does.
-    fn answer_long<D, S: Sink>(&mut self, out: &mut S, disk: &mut D) -> Result<(), TellFault>
-    where
-        J: Keeper<D>,
-        requires { (n : ℕ) × (n < 2 ^ 40) × J.is_ready self.old.keeper disk.old n }
-        ensures lines { self.new.lines ≡ self.old.lines }
-        ensures ready { (n : ℕ) → n < 2 ^ 40 → J.is_ready self.old.keeper disk.old n →
-            OnOk result (J.is_ready self.new.keeper disk.new n) }
-        ensures cause { HasTellCause result (J.faults disk.old) (J.faults disk.new)
-            (S.faults out.old) (S.faults out.new) }
-        ensures answered { (market : Market) (now : Standing) → OnOk result
-            (AreGathered market now (long ∷ []) now (S.written out.old) (S.written out.new)
-            self.old.waiting.bytes self.new.waiting.bytes) }
-        ensures front { OnErr result
-            (AddsFront (S.written out.old) (S.written out.new) self.old.waiting.bytes) }
-        ensures tells { (market : Market) (now : Standing) (begun : D) (name bytes : List ℕ)
-            (first least : ℕ) (all : List (List ℕ)) →
-            HoldsSince (J.holds self.old.keeper disk.old name bytes)
-            (J.passes begun disk.old name bytes) first least all →
-            SpeaksAndTells result market now (long ∷ []) now (S.written out.old)
-            (S.written out.new) self.old.waiting.bytes self.new.waiting.bytes least all
-            (HoldsSince (J.holds self.new.keeper disk.new name bytes)
-            (J.passes begun disk.new name bytes) first)
-            (LeavesSince (J.leaves disk.new name bytes) (J.passes begun disk.new name bytes)
-            first) }
-    {
-        self.say(&Reply::Refused { why: Refusal::Long }, out, disk)
-    }
-
     /// Puts the line of a reply behind those that wait.
     fn say<D, S: Sink>(&mut self, reply: &Reply, out: &mut S, disk: &mut D) -> Result<(), TellFault>
     where
         J: Keeper<D>,
         requires { (n : ℕ) × (n < 2 ^ 40) × J.is_ready self.old.keeper disk.old n }
         ensures lines { self.new.lines ≡ self.old.lines }
-        ensures ready { (n : ℕ) → n < 2 ^ 40 → J.is_ready self.old.keeper disk.old n →
-            OnOk result (J.is_ready self.new.keeper disk.new n) }
-        ensures cause { HasTellCause result (J.faults disk.old) (J.faults disk.new)
-            (S.faults out.old) (S.faults out.new) }
-        ensures gathers { OnOk result (Gathers (S.written out.old) (S.written out.new)
-            self.old.waiting.bytes (reply_line reply.now) self.new.waiting.bytes) }
-        ensures front { OnErr result
-            (AddsFront (S.written out.old) (S.written out.new) self.old.waiting.bytes) }
-        ensures tells { (begun : D) (name bytes : List ℕ) (first least : ℕ)
-            (all : List (List ℕ)) → HoldsSince (J.holds self.old.keeper disk.old name bytes)
-            (J.passes begun disk.old name bytes) first least all →
-            Tells result (S.written out.old) (S.written out.new) self.old.waiting.bytes
-            (reply_line reply.now) self.new.waiting.bytes least (length all)
-            (λ n. HoldsSince (J.holds self.new.keeper disk.new name bytes)
-            (J.passes begun disk.new name bytes) first n all)
-            (LeavesSince (J.leaves disk.new name bytes) (J.passes begun disk.new name bytes) first
-            all) }
+        ensures told { IsTold J.is_ready J.faults J.holds J.leaves J.passes S.written S.faults
+            result self.old.keeper self.new.keeper disk.old disk.new out.old out.new
+            self.old.waiting.bytes (reply_line reply.now) self.new.waiting.bytes }
     {
         print_reply_line(reply, &mut self.line);
         let line = self.line.as_str();
@@ -540,5 +449,17 @@ fn end_after(told: Result<(), TellFault>) -> Option<Status>
         Ok(()) => None,
         Err(TellFault::Disk) => Some(Status::DiskFault),
         Err(TellFault::Sink) => Some(Status::WriteFault),
+    }
+}
+
+/// How a run ends by an answer that gives no line.
+fn end_by(next: Next) -> Option<Status>
+    ensures { result ≡ ended_at next }
+{
+    match next {
+        Next::Line | Next::Long => None,
+        Next::End => Some(Status::Done),
+        Next::ReadFault => Some(Status::ReadFault),
+        Next::TooMany => Some(Status::TooMany),
     }
 }

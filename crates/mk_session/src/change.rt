@@ -1,10 +1,8 @@
 //! The records of changes, as a keeper takes them.
 
-ghost use Rattle.std.specs.Prelude.{◌≡◌, ℕ, ◌+◌, ◌-◌, ◌^◌, ◌<◌, ◌≤◌, List, [], ◌∷◌, ◌++◌};
-ghost use Rattle.std.specs.Prelude.{length, take, OnOk, MatchResult};
-ghost use Rattle.mk_disk.specs.Disk.{HasCause};
-ghost use Rattle.mk_session.specs.Left.{LeavesSince};
-ghost use Rattle.mk_session.specs.inner.Keeping.{HoldsSince};
+ghost use Rattle.std.specs.Prelude.{◌≡◌, ℕ, ◌+◌, ◌-◌, ◌^◌, ◌<◌, ◌≤◌, ◌∷◌, ◌++◌};
+ghost use Rattle.std.specs.Prelude.{length, take};
+ghost use Rattle.mk_session.specs.inner.Keeping.{TakesChange};
 
 use arrayvec::ArrayVec;
 use mk_disk::DiskFailed;
@@ -42,22 +40,10 @@ fn take_within<const ROOM: usize, D, J: Keeper<D>>(
 ) -> Result<(), DiskFailed>
     requires room { ROOM ≤ 34000 }
     requires within { length line.now + length printed.now ≤ ROOM }
-    requires line { length line.now ≤ 1024 }
     requires some { 1 ≤ length printed.now }
-    requires most { length printed.now ≤ 32768 }
     requires ready { (n : ℕ) × (n < 2 ^ 40) × J.is_ready keeper.old disk.old n }
-    ensures ready { (n : ℕ) → n < 2 ^ 40 → J.is_ready keeper.old disk.old n →
-        OnOk result (J.is_ready keeper.new disk.new (n + 1)) }
-    ensures cause { HasCause (J.faults disk.old) (J.faults disk.new) result }
-    ensures taken { (begun : D) (name market : List ℕ) (first least : ℕ)
-        (all : List (List ℕ)) → HoldsSince (J.holds keeper.old disk.old name market)
-        (J.passes begun disk.old name market) first least all →
-        let record_is = line.now ++ 10 ∷ take (length printed.now - 1) printed.now in
-        MatchResult result
-        (λ _. HoldsSince (J.holds keeper.new disk.new name market)
-        (J.passes begun disk.new name market) first least (all ++ record_is ∷ []))
-        (λ _. LeavesSince (J.leaves disk.new name market) (J.passes begun disk.new name market)
-        first (all ++ record_is ∷ []) least) }
+    ensures { TakesChange J.is_ready J.faults J.holds J.leaves J.passes result keeper.old keeper.new
+        disk.old disk.new (line.now ++ 10 ∷ take (length printed.now - 1) printed.now) }
 {
     let mut made = ArrayVec::<u8, ROOM>::new();
     put_record(line, &printed[..printed.len() - 1], &mut made);
@@ -75,18 +61,8 @@ pub fn take_change<D, J: Keeper<D>>(
     requires some { 1 ≤ length printed.now }
     requires most { length printed.now ≤ 32768 }
     requires ready { (n : ℕ) × (n < 2 ^ 40) × J.is_ready keeper.old disk.old n }
-    ensures ready { (n : ℕ) → n < 2 ^ 40 → J.is_ready keeper.old disk.old n →
-        OnOk result (J.is_ready keeper.new disk.new (n + 1)) }
-    ensures cause { HasCause (J.faults disk.old) (J.faults disk.new) result }
-    ensures taken { (begun : D) (name market : List ℕ) (first least : ℕ)
-        (all : List (List ℕ)) → HoldsSince (J.holds keeper.old disk.old name market)
-        (J.passes begun disk.old name market) first least all →
-        let record_is = line.now ++ 10 ∷ take (length printed.now - 1) printed.now in
-        MatchResult result
-        (λ _. HoldsSince (J.holds keeper.new disk.new name market)
-        (J.passes begun disk.new name market) first least (all ++ record_is ∷ []))
-        (λ _. LeavesSince (J.leaves disk.new name market) (J.passes begun disk.new name market)
-        first (all ++ record_is ∷ []) least) }
+    ensures { TakesChange J.is_ready J.faults J.holds J.leaves J.passes result keeper.old keeper.new
+        disk.old disk.new (line.now ++ 10 ∷ take (length printed.now - 1) printed.now) }
 {
     if line.len() + printed.len() <= SHORT {
         take_within::<SHORT, D, J>(line, printed, keeper, disk)

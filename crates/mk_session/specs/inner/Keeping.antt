@@ -1,11 +1,12 @@
 -- What of the changes of a run is kept before its replies are written, and what a crash leaves. A
 -- market that is named beside a standing is the file's.
-use Rattle.std.specs.Prelude.{◌≡◌, ℕ, ◌≤◌, List, ◌++◌, length, filter}
-use Rattle.std.specs.Prelude.{Option, Result, Ok, Err, ◌⊎◌}
+use Rattle.std.specs.Prelude.{◌≡◌, ◌≢◌, ℕ, ◌+◌, ◌-◌, ◌^◌, ◌<◌, ◌≤◌, List, [], ◌∷◌, ◌++◌, length}
+use Rattle.std.specs.Prelude.{take, filter, Option, Result, Ok, Err, OnOk, OnErr, MatchResult, ◌⊎◌}
 use Rattle.std.specs.List.{flat_map, AllZip}
 use Rattle.mk_io.specs.Outside.{append_known, AddsFront}
 use Rattle.mk_io.specs.Stream.{StreamLine, is_not_blank}
 use Rattle.mk_io.specs.Cutting.{Cutting}
+use Rattle.mk_disk.specs.Disk.{HasCause}
 use Rattle.mk_journal.specs.Keepers.{Holds}
 use Rattle.mk_exact.specs.Market.{Market, present}
 use Rattle.mk_reply.specs.declared.reply.Reply.{Reply}
@@ -17,8 +18,9 @@ use Rattle.mk_session.specs.Texts.{reply_line}
 use Rattle.mk_session.specs.Transcript.{Start, Asks}
 use Rattle.mk_session.specs.Begins.{CanBegin}
 use Rattle.mk_session.specs.Outcome.{IsFrontOf}
-use Rattle.mk_session.specs.Left.{records_of, IsRecordOf, changes_from, AreTold}
-use Rattle.mk_session.specs.inner.Progress.{IsSoundAt, IsPlaced}
+use Rattle.mk_session.specs.Left.{records_of, IsRecordOf, changes_from, AreTold, LeavesSince}
+use Rattle.mk_session.specs.inner.Progress.{IsSoundAt, IsPlaced, Gathers}
+use Rattle.mk_session.specs.inner.Telling.{HasTellCause}
 
 -- a line that is not blank got one reply, whose line this is
 pub record IsSpoken (market : Market) (old : Standing) (line : StreamLine) (new : Standing)
@@ -40,6 +42,14 @@ pub record AreSpoken (market : Market) (old : Standing) (lines : List StreamLine
   pub run : IsSoundAt market old → Run market old asked replies new
   pub holds : P (flat_map reply_line replies) (records_of (changes_of market old asked replies))
 
+-- the records of the changes that a line and its reply, whose line is printed, made of a history
+-- that had so many entries before
+pub record AreMade (entries before : ℕ) (line printed : List ℕ) (records : List (List ℕ))
+    : Type 0 where
+  pub none : entries ≡ before → records ≡ []
+  pub one : entries ≢ before
+      → records ≡ (line ++ 10 ∷ take (length printed - 1) printed) ∷ []
+
 -- these changes are held, and a crash at any moment since the run began leaves a front of them,
 -- with all that were kept before it
 pub record HoldsSince (holds : List (List ℕ) → List (List ℕ) → Type 0)
@@ -47,6 +57,24 @@ pub record HoldsSince (holds : List (List ℕ) → List (List ℕ) → Type 0)
   pub held : Holds holds least all
   pub no_fewer : first ≤ least
   pub passed : passes all first
+
+-- what a call leaves that takes a change: whether its keeper is ready again, which fault it counts,
+-- and what holds the change or may be left of it
+pub record TakesChange {T E D K : Type 0} (is_ready : K → D → ℕ → Type 0) (faults : D → ℕ)
+    (holds : K → D → List ℕ → List ℕ → List (List ℕ) → List (List ℕ) → Type 0)
+    (leaves : D → List ℕ → List ℕ → List (List ℕ) → ℕ → Type 0)
+    (passes : D → D → List ℕ → List ℕ → List (List ℕ) → ℕ → Type 0)
+    (said : Result T E) (keeper keeper' : K) (disk disk' : D) (change : List ℕ) : Type 0 where
+  pub ready : (n : ℕ) → n < 2 ^ 40 → is_ready keeper disk n
+      → OnOk said (is_ready keeper' disk' (n + 1))
+  pub cause : HasCause (faults disk) (faults disk') said
+  pub taken : (begun : D) (name market : List ℕ) (first least : ℕ) (all : List (List ℕ))
+      → HoldsSince (holds keeper disk name market) (passes begun disk name market) first least all
+      → MatchResult said
+      (λ _. HoldsSince (holds keeper' disk' name market) (passes begun disk' name market) first
+      least (all ++ change ∷ []))
+      (λ _. LeavesSince (leaves disk' name market) (passes begun disk' name market) first
+      (all ++ change ∷ []) least)
 
 -- what comes of lines that wait and of the changes behind them, where they may be told: as many
 -- changes count as kept as before, and no line is written; or all do, and all lines that waited
@@ -60,6 +88,26 @@ Tells (Err Disk) before after waited more waits least most holds leaves =
     (after ≡ before) × leaves least
 Tells (Err Sink) before after waited more waits least most holds leaves =
     AddsFront before after waited × leaves most
+
+-- what a call leaves that puts more behind what waits: whether its keeper is ready again, which
+-- fault it counts, what it writes, and what is kept
+pub record IsTold {T D K S : Type 0} (is_ready : K → D → ℕ → Type 0) (disk_faults : D → ℕ)
+    (holds : K → D → List ℕ → List ℕ → List (List ℕ) → List (List ℕ) → Type 0)
+    (leaves : D → List ℕ → List ℕ → List (List ℕ) → ℕ → Type 0)
+    (passes : D → D → List ℕ → List ℕ → List (List ℕ) → ℕ → Type 0)
+    (written : S → Option (List ℕ)) (sink_faults : S → ℕ) (said : Result T TellFault)
+    (keeper keeper' : K) (disk disk' : D) (out out' : S) (waited more waits : List ℕ) : Type 0 where
+  pub ready : (n : ℕ) → n < 2 ^ 40 → is_ready keeper disk n → OnOk said (is_ready keeper' disk' n)
+  pub cause : HasTellCause said (disk_faults disk) (disk_faults disk') (sink_faults out)
+      (sink_faults out')
+  pub gathers : OnOk said (Gathers (written out) (written out') waited more waits)
+  pub front : OnErr said (AddsFront (written out) (written out') waited)
+  pub tells : (begun : D) (name market : List ℕ) (first least : ℕ) (all : List (List ℕ))
+      → HoldsSince (holds keeper disk name market) (passes begun disk name market) first least all
+      → Tells said (written out) (written out') waited more waits least (length all)
+      (λ n. HoldsSince (holds keeper' disk' name market) (passes begun disk' name market) first n
+      all)
+      (LeavesSince (leaves disk' name market) (passes begun disk' name market) first all)
 
 -- the same of the lines of replies, whose changes are taken before
 abbrev pub SpeaksAndTells : {T : Type 0} → Result T TellFault → Market → Standing

@@ -15,9 +15,7 @@ returns-in-Ok-clause-served g c = λ market all here told begins.
     (g.I.Inputs.commands c.keep_lines.new.inputs) (g.S.Sink.written c.args.out.now)
     (g.S.Sink.written c.keep_lines.new.out)
     (c.keep_lines.ensures.ended start all (g.S.Sink.written c.args.out.now) (begun_at market now
-    c.args.keeping.recovered all c.as_bytes.result.now (g.I.Inputs.commands c.args.inputs.now)
-    (g.S.Sink.written c.args.out.now) (g.S.Sink.written c.write_all.new.out) here begins told
-    c.in-Ok.ensures.whole
+    c.args.keeping.recovered _ c.as_bytes.result.now _ _ _ here begins told c.in-Ok.ensures.whole
     (c.as_bytes.ensures.value ∙ c.deref.ensures.0 ∙ c.print_head.ensures market here)))
 
 pub returns-in-Ok-clause-done : goal.returns-in-Ok-clause-done
@@ -28,9 +26,7 @@ returns-in-Ok-clause-done g c = λ done market all here told begins.
     (g.I.Inputs.commands c.keep_lines.new.inputs) (g.S.Sink.written c.args.out.now)
     (g.S.Sink.written c.keep_lines.new.out) done
     (c.keep_lines.ensures.ended start all (g.S.Sink.written c.args.out.now) (begun_at market now
-    c.args.keeping.recovered all c.as_bytes.result.now (g.I.Inputs.commands c.args.inputs.now)
-    (g.S.Sink.written c.args.out.now) (g.S.Sink.written c.write_all.new.out) here begins told
-    c.in-Ok.ensures.whole
+    c.args.keeping.recovered _ c.as_bytes.result.now _ _ _ here begins told c.in-Ok.ensures.whole
     (c.as_bytes.ensures.value ∙ c.deref.ensures.0 ∙ c.print_head.ensures market here)))
 
 pub returns-in-Ok-clause-left : goal.returns-in-Ok-clause-left
@@ -38,9 +34,7 @@ returns-in-Ok-clause-left g c = λ market all name bytes kept here told begins h
     let now = c.args.market.now in
     let start = started market now.standing c.args.keeping.recovered in
     c.keep_lines.ensures.left start all name bytes (g.S.Sink.written c.args.out.now) kept
-    (begun_at market now c.args.keeping.recovered all c.as_bytes.result.now
-    (g.I.Inputs.commands c.args.inputs.now) (g.S.Sink.written c.args.out.now)
-    (g.S.Sink.written c.write_all.new.out) here begins told
+    (begun_at market now c.args.keeping.recovered _ c.as_bytes.result.now _ _ _ here begins told
     c.in-Ok.ensures.whole
     (c.as_bytes.ensures.value ∙ c.deref.ensures.0 ∙ c.print_head.ensures market here))
     (subst (λ k. g.J.Keeper.holds k c.args.disk.now name bytes kept [])

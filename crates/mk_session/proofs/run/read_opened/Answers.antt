@@ -21,12 +21,9 @@ returns-clause-bytes g c = λ file told.
 
 pub returns-in-Ok-eq0-clause-few : goal.returns-in-Ok-eq0-clause-few
 returns-in-Ok-eq0-clause-few g c = λ file told.
-    let taken = c.in-Ok-eq0.ensures.taken file (c.pieces.invariant.taken file told) in
-    let short : length c.read_piece.new.bytes.items ≤ c.args.most =
-    omega (arith, c.in-Ok-eq0.ensures.grows, c.pieces.invariant.short) in
-    within_of c.args.most file c.read_piece.new.bytes.items (g.I.Inputs.market
-    c.read_piece.new.inputs)
-    taken short
+    within_of c.args.most file c.read_piece.new.bytes.items _
+    (c.in-Ok-eq0.ensures.taken file (c.pieces.invariant.taken file told))
+    (omega (arith, c.in-Ok-eq0.ensures.grows, c.pieces.invariant.short))
 
 pub returns-in-Err-clause-few : goal.returns-in-Err-clause-few
 returns-in-Err-clause-few g c = λ file told.

@@ -1,12 +1,17 @@
-use Rattle.mk_session.proofs.Gathering.{gathers_line}
-use Rattle.mk_session.proofs.Keeping.{fails_alike}
+use Rattle.std.proofs.Common.{arith}
+use Rattle.mk_session.proofs.Gathering.{room_of}
+use Rattle.mk_session.proofs.Telling.{told_line, told_fault}
 use Rattle.mk_session.proofs.waiting.put_line.Goals as goal
 
-pub returns-in-Ok-clause-gathers : goal.returns-in-Ok-clause-gathers
-returns-in-Ok-clause-gathers g c = gathers_line _ _ _ _ _ _ c.in-Ok.ensures.gathers
-    c.push_str.ensures.bytes
+pub returns-in-Ok : goal.returns-in-Ok
+returns-in-Ok g c = told_line _ _ c.push_str.ensures.bytes c.in-Ok.ensures.told
 
-pub returns-in-Err-clause-tells : goal.returns-in-Err-clause-tells
-returns-in-Err-clause-tells g c = λ begun name market first least all held.
-    fails_alike (Unit {0}) (Unit {0}) c.in-Err.fault _ _ _ _ _ _ _ _ _ _ _ _
-    (c.in-Err.ensures.tells begun name market first least all held)
+pub returns-in-Err : goal.returns-in-Err
+returns-in-Err g c = told_fault _ _ c.in-Err.fault c.in-Err.ensures.told
+
+pub push_str-requires : goal.push_str-requires
+push_str-requires g c = (
+  omega arith,
+  room_of _ _ c.args.waiting.now.bytes _ 32768 c.remaining_capacity.ensures c.requires.size
+      c.write_unless.ensures.waits c.in-Ok.ensures.none,
+)

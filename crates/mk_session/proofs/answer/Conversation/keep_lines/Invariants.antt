@@ -6,8 +6,8 @@ use Rattle.mk_session.specs.inner.Keeping.{HoldsSince, IsHeldSoFar}
 use Rattle.mk_session.proofs.Going.{IsGoing}
 use Rattle.mk_session.proofs.answer.Conversation.keep_lines.Given as goal
 
-abbrev pub invariant-loop-end : goal.invariant-loop-end
-invariant-loop-end g l = record {
+abbrev pub invariant-turns : goal.invariant-turns
+invariant-turns g l = record {
   going : IsGoing l.fn.market l.market
       (g.I.Inputs.commands l.fn.inputs) l.self.lines (g.I.Inputs.commands l.inputs)
       (g.S.Sink.written l.fn.out) (g.S.Sink.written l.out) l.self.waiting.bytes
@@ -27,5 +27,5 @@ invariant-loop-end g l = record {
       (g.J.Keeper.passes l.fn.disk l.disk name bytes) (length kept));
 }
 
-abbrev pub decreases-loop-end : goal.decreases-loop-end
-decreases-loop-end g l = max_stream_lines - l.self.lines.given
+abbrev pub decreases-turns : goal.decreases-turns
+decreases-turns g l = max_stream_lines - l.self.lines.given
