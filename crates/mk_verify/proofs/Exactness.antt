@@ -21,6 +21,8 @@ use Rattle.mk_judge.specs.Prices.{ArePriceBounds, IsPriceNear}
 use Rattle.mk_judge.specs.Cash.{IsOwned}
 use Rattle.mk_judge_points.specs.Cash.{IsCashNear, IsBitsNear, AreBitsNear, ArePowersNear, nearness}
 use Rattle.mk_answers.specs.Evidence.{AreBoundsOfPrice, IsFactorOf}
+use Rattle.mk_answers.proofs.Told.{cash_for}
+use Rattle.mk_answers.proofs.Weaker.{covers_when}
 use Rattle.mk_evidence.specs.Grades.{evidence_grade}
 use Rattle.mk_verify.specs.Clear.{IsPriceOpen, IsCashOpen, AreBitsOpen, IsMostOpen}
 use Rattle.mk_judge_quotes.specs.Clear.{near_steps}
@@ -42,20 +44,6 @@ pub record JudgesPrice (j : Judged) (bounds : PriceBounds) (small : Bool)
   pub clear : j ≡ Unclear → (price : Fraction) → ArePriceBounds bounds small price
       → small ≡ false
 
-price_for : (small large : Type 0) (near : ℕ) (price : Fraction) (low high : ℕ) → (large → small)
-    → CoversPrice small near price low high → CoversPrice large near price low high
-price_for small large near price low high to h = record {
-  below = h.below;
-  above = h.above;
-  at_most_one = h.at_most_one;
-  low_near = h.low_near;
-  high_near = h.high_near;
-  never = h.never;
-  sure = h.sure;
-  floor = λ s. h.floor (to s);
-  ceiling = λ s. h.ceiling (to s);
-}
-
 -- what is not told to be small is not
 pub not_small : (small : Bool) (S : Type 0) → ((small ≡ true) ↔ S) → small ≡ false → ¬ S
 not_small small S tells large is = false≢true (sym large ∙ tells.1 is)
@@ -75,8 +63,8 @@ price_judged market H asked bounds small most_trades low high j tells evidence t
     subst (λ (n : ℕ). JudgesPrice j bounds small n low high) trades says in
     let its = evidence.bounds_of small tells.0 in
     judges_by j _ _
-    (λ e. price_for (IsTrue small) _ near price low high tells.1 (said.allowed e price its))
-    (λ e h. said.wrong e price its (price_for _ (IsTrue small) near price low high tells.0 h))
+    (λ e. covers_when _ (IsTrue small) tells.1 near price low high (said.allowed e price its))
+    (λ e h. said.wrong e price its (covers_when (IsTrue small) _ tells.0 near price low high h))
     (λ e. record {
       large = not_small small _ tells (said.clear e price its);
       near = price_nearer near bounds price low high (evidence_grade market H)
@@ -94,19 +82,6 @@ pub record JudgesCash (j : Judged) (factor : Factor) (small : Bool)
       → CoversCash (IsTrue small) (factor.trades ≡ 0) (sharpness most_trades) q b low high → ⊥
   pub unclear : j ≡ Unclear → (q : Fraction) → IsOwned factor q
       → IsCashNear small most_trades factor q b low high
-
-cash_for : (small large idle alone : Type 0) (near : ℕ) (q : Fraction) (b low high : ℕ)
-    → (large → small) → (alone → idle) → CoversCash small idle near q b low high
-    → CoversCash large alone near q b low high
-cash_for small large idle alone near q b low high to by h = record {
-  cash = h.cash;
-  is_cash = h.is_cash;
-  above = h.above;
-  below = h.below;
-  near = h.near;
-  nearer = λ s. h.nearer (to s);
-  exact = λ i. h.exact (by i);
-}
 
 near_powers : (small : Bool) (S : Type 0) (most_trades : ℕ) (q : Fraction)
     (b low high steps : ℕ) → ((small ≡ true) ↔ S)
@@ -139,10 +114,10 @@ cash_judged market H u g factor small most_trades b low high j tells sound evide
     let idle : HoldsNoTrade H u → factor.trades ≡ 0 = (λ none. evidence.traded ∙ none) in
     let alone : factor.trades ≡ 0 → HoldsNoTrade H u = (λ none. sym evidence.traded ∙ none) in
     judges_by j _ _
-    (λ e. cash_for (IsTrue small) _ (factor.trades ≡ 0) _ near_part q k low high tells.1 idle
+    (λ e. cash_for _ _ (IsTrue small) (factor.trades ≡ 0) near_part q k low high tells.1 idle
     (said.allowed e q its))
     (λ e h. said.wrong e q its
-    (cash_for _ (IsTrue small) _ (factor.trades ≡ 0) near_part q k low high tells.0 alone h))
+    (cash_for (IsTrue small) (factor.trades ≡ 0) _ _ near_part q k low high tells.0 alone h))
     (λ e. let near = said.unclear e q its in record {
       traded = λ none. near.traded (idle none);
       near = near_powers small _ most q k low high _ tells

@@ -4,11 +4,11 @@ mod EditingKnown
 mod EditingReplies
 mod Exactness
 mod Nearer
-mod Paying
 mod Places
 mod Same
 mod Settled
 mod SpreadingReplies
 mod ToldNumbers
 mod ToldValues
+mod Unquoted
 mod Verdicts

@@ -1,11 +1,13 @@
 -- Judgements of settlements.
-use Rattle.std.proofs.Common.{◌≡◌, ℕ, ◌+◌, ◌≤◌, inl, inr, Bool, List, [], ◌∷◌, length, map, None, refl, sym, ap, subst, ◌∙◌, arith}
+use Rattle.std.proofs.Common.{◌≡◌, ℕ, ◌+◌, ◌<◌, ◌≤◌, ◌↔◌, ◌==◌, inl, inr, Bool, true, false, List, [], ◌∷◌, length, map, None, refl, sym, ap, subst, ◌∙◌, arith}
+use Rattle.std.proofs.lemmas.Bool.{eqb-true, eq-eqb}
 use Rattle.std.proofs.lemmas.List.{length-map}
 use Rattle.std.proofs.lemmas.Option.{slice_get_within}
 use Rattle.std.specs.List.{AllZip, enumerate_from}
 use Rattle.mk_net.specs.Bounds.{max_payments}
 use Rattle.mk_net.specs.Network.{Variable}
 use Rattle.mk_states.specs.Events.{always}
+use Rattle.mk_exact.specs.ByRule.{payments_by_rule, paid_in_all}
 use Rattle.mk_exact.specs.Existing.{HasOutcome}
 use Rattle.mk_exact.specs.History.{Entry, users, revision}
 use Rattle.mk_exact.specs.Market.{Market}
@@ -14,21 +16,23 @@ use Rattle.mk_exact.specs.Weight.{possible_states}
 use Rattle.mk_command.specs.declared.command.Command.TheVariants.{Settle}
 use Rattle.mk_reply.specs.declared.payments.Payment.{Payment}
 use Rattle.mk_reply.specs.declared.reply.Reply.{Reply}
-use Rattle.mk_reply.specs.declared.reply.Reply.TheVariants.{Settled}
+use Rattle.mk_reply.specs.declared.reply.Reply.TheVariants.{Settled, SettledAll}
+use Rattle.mk_reply.specs.Replies.{IsReply}
+use Rattle.mk_restore.specs.Restoring.{IsListed}
 use Rattle.mk_rules.specs.Answers.{IsPayment, IsSettlement, settled_by_rule}
 use Rattle.mk_rules.proofs.Paying.{SettlingIs, settling_is}
 use Rattle.mk_rules.specs.Refusals.{first_refusal}
 use Rattle.mk_judge.specs.declared.judged.Judged.{Judged}
-use Rattle.mk_judge.specs.declared.judged.Judged.TheVariants.{Wrong}
 use Rattle.mk_judge.specs.Judged.{Judges}
 use Rattle.mk_judge.proofs.Judging.{judges_as}
 use Rattle.mk_evidence.specs.Grades.{evidence_grade}
-use Rattle.mk_verify.specs.Clear.{IsOpen, IsPaymentOpen}
+use Rattle.mk_verify.specs.Clear.{IsPaymentOpen}
 use Rattle.mk_answers.specs.Evidence.{IsFactorOf}
 use Rattle.mk_exact.specs.Factors.{gain}
 use Rattle.mk_enclose.specs.declared.factor.Factor.{Factor}
 use Rattle.mk_judge_quotes.specs.Small.{TellsSmall}
-use Rattle.mk_verify.specs.inner.Judging.{JudgesReply, PaysCash, PayEach, IsPaymentLeftOpen}
+use Rattle.mk_verify.specs.inner.Judging.{JudgesReply, InOneState, PaysCash, PayEach, IsPaymentLeftOpen, by_words}
+use Rattle.mk_verify.proofs.ByWords.{judges_words}
 use Rattle.mk_verify.proofs.Places.{numbered_of, numbered_at, numbered_names, JudgesBelow, IsOpenBelow, HoldBelow}
 use Rattle.mk_verify.proofs.Exactness.{JudgesCash, cash_judged}
 use Rattle.mk_verify.proofs.Verdicts.{judges_answer}
@@ -72,14 +76,14 @@ module _ (market : Market) (H : List Entry) where
   module _ (none : first_refusal market H Settle ≡ None) where
     pub settled_told : (payments : List Payment) (j : Judged) → HasOutcome network H
         → map named payments ≡ users H → length payments ≤ max_payments
-        → ((state : List ℕ) → IsSound network H → possible_states network H always ≡ state ∷ []
-        → Judges j (PayEach market H state payments) (IsPaymentOpen market H payments))
+        → InOneState market H
+        (λ state. Judges j (PayEach market H state payments) (IsPaymentOpen market H payments))
         → JudgesReply market H Settle (Settled (revision H + 1) payments) j
-    settled_told payments j outcome names few judged quotes stands =
+    settled_told payments j outcome names few judged =
         let told = Settled (revision H + 1) payments in
         let state = outcome.state in
-        judges_answer market H quotes Settle told j _ none
-        (judges_as j (PayEach market H state payments) _ _ _
+        judges_answer market H Settle told j none (λ quotes stands.
+        judges_as j (PayEach market H state payments) _ _ _
         (λ each. record {
           listed = λ _. record {
             state = state;
@@ -107,19 +111,60 @@ module _ (market : Market) (H : List Entry) where
             (subst (λ (s : List ℕ). PayEach market H s h.payments) one
             (paid_each h.state h.payments h.paid))
 
-    pub not_settled : (reply : Reply)
-        → ((payments : List Payment) → map named payments ≡ users H
-        → reply ≡ Settled (revision H + 1) payments → ⊥) → (reply ≡ settled_by_rule market H → ⊥)
-        → JudgesReply market H Settle reply Wrong
-    not_settled reply other neither quotes stands =
-        judges_answer market H quotes Settle reply Wrong (IsOpen market H quotes Settle reply) none
-        (λ h. never (settling_is market H reply h))
+    pub unlisted_told : (reply : Reply) (b : Bool) → IsReply reply
+        → ((b ≡ true) ↔ (reply ≡ settled_by_rule market H))
+        → (IsListed (revision H + 1) (users H) reply → ⊥)
+        → JudgesReply market H Settle reply (by_words b)
+    unlisted_told reply b fits says unlisted =
+        judges_words market H Settle reply b none (λ quotes. (
+          (λ yes. record {
+            listed = λ few. absurd (omega (arith, few, many_users (says.0 yes)));
+            summed = λ many. says.0 yes;
+          }),
+          (λ answer. either (settling_is market H reply answer)),
+        ))
       where
-        never : SettlingIs market H reply → ⊥
-        never (inl (few, h)) = other h.payments (numbered_names
-            (Pays h.state) named (λ k y p its. its.name) 0
-            (users H) h.payments h.paid) h.printed
-        never (inr (many, summed)) = neither summed
+        many_users : reply ≡ settled_by_rule market H → max_payments < length (users H)
+        many_users is = let its = subst IsReply is fits in its.1.many
+
+        either : SettlingIs market H reply → b ≡ true
+        either (inl (few, h)) = absurd (unlisted (record {
+          payments = h.payments;
+          printed = h.printed;
+          in_order = numbered_names (Pays h.state) named (λ k y p its. its.name) 0 (users H)
+              h.payments h.paid;
+        }))
+        either (inr (many, summed)) = says.1 summed
+
+  -- what all users are paid by rule
+  abbrev in_all : ℕ
+  in_all = paid_in_all (payments_by_rule network H market.points_per_bit)
+
+  -- of a total that a reply tells of the next change, or of another
+  module _ (reply : Reply) (at count total : ℕ) (told : Bool)
+      (is : reply ≡ SettledAll at count total)
+      (says : (told ≡ true) ↔ (reply ≡ SettledAll (revision H + 1) (length (users H)) total)) where
+    total_is : reply ≡ settled_by_rule market H → total ≡ in_all
+    total_is by_rule =
+        let e : SettledAll at count total ≡ SettledAll (revision H + 1) (length (users H)) in_all
+        = sym is ∙ by_rule in
+        cc
+
+    by_rule_of : total ≡ in_all
+        → SettledAll (revision H + 1) (length (users H)) total ≡ settled_by_rule market H
+    by_rule_of same = ap (λ (n : ℕ). SettledAll (revision H + 1) (length (users H)) n) same
+
+    pub total_told : (due : ℕ) → due ≡ in_all → told ≡ true
+        → ((total == due) ≡ true) ↔ (reply ≡ settled_by_rule market H)
+    total_told due owed told_so = (
+      λ same. says.0 told_so ∙ by_rule_of (eqb-true total due same ∙ owed),
+      λ by_rule. eq-eqb total due (total_is by_rule ∙ sym owed),
+    )
+
+    pub otherwise_told : told ≡ false → reply ≡ settled_by_rule market H → ⊥
+    otherwise_told told_not by_rule =
+        let told_so = says.1 (by_rule ∙ sym (by_rule_of (total_is by_rule))) in
+        cc
 
   -- of the payments before a place
   abbrev pub JudgesPaid : List ℕ → List Payment → Judged → ℕ → Type 0

@@ -31,20 +31,14 @@ use Rattle.mk_judge_points.specs.Losses.{quotient, IsBoundNear}
 use Rattle.mk_judge.proofs.Judging.{judges_as}
 use Rattle.mk_answers.specs.Evidence.{AreBoundsOfPrice, IsLeastFactorOf, IsLeastWeight}
 use Rattle.mk_evidence.specs.Grades.{evidence_grade, all_cells}
-use Rattle.mk_verify.specs.Clear.{IsOpen, IsPriceOpen, IsCashOpen, AreBitsOpen, IsMostOpen}
+use Rattle.mk_verify.specs.Clear.{IsPriceOpen, IsCashOpen, AreBitsOpen, IsMostOpen}
 use Rattle.mk_judge_quotes.specs.Clear.{near_steps}
 use Rattle.mk_judge_quotes.specs.Small.{TellsSmall}
 use Rattle.mk_verify.specs.inner.Judging.{JudgesReply}
 use Rattle.mk_verify.proofs.Nearer.{bound_nearer}
 use Rattle.mk_verify.proofs.Exactness.{JudgesPrice, JudgesCash, JudgesCovered, JudgesMost, price_judged, cash_judged, covered_judged, most_judged}
 use Rattle.mk_judge_quotes.proofs.Verdicts.{judges_by}
-use Rattle.mk_verify.proofs.Verdicts.{judges_some, judges_answer}
-
--- of a reply that is the same
-pub judges_same : (market : Market) (H : List Entry) (command : _) (reply told : Reply) (j : Judged)
-    → reply ≡ told → JudgesReply market H command told j → JudgesReply market H command reply j
-judges_same market H command reply told j is judged =
-    subst (λ (r : Reply). JudgesReply market H command r j) (sym is) judged
+use Rattle.mk_verify.proofs.Verdicts.{judges_some, none_holds, judges_answer}
 
 -- ---- prices
 
@@ -56,11 +50,10 @@ pub price_told : (market : Market) (H : List Entry) (q : QuestionText) (bounds :
     → TellsSmall small market H → most_trades ≡ market.max_trades
     → JudgesPrice j bounds small most_trades low high
     → JudgesReply market H (Price q) (Priced low high) j
-price_told market H q bounds small most_trades low high j none evidence tells trades says quotes
-    stands =
+price_told market H q bounds small most_trades low high j none evidence tells trades says =
     let network = market.network in
-    judges_answer market H quotes (Price q) (Priced low high) j _ none
-    (judges_some (question_named network q) _
+    judges_answer market H (Price q) (Priced low high) j none (λ quotes stands.
+    judges_some (question_named network q) _
     (λ asked. IsPrice network H market.max_trades asked (Priced low high))
     (λ asked. IsPriceOpen market H asked (low, high)) j evidence
     (λ asked its. judges_as j
@@ -84,15 +77,11 @@ price_told market H q bounds small most_trades low high j none evidence tells tr
 pub no_price : (market : Market) (H : List Entry) (q : QuestionText) (reply : Reply)
     → first_refusal market H (Price q) ≡ None
     → ((low high : ℕ) → reply ≡ Priced low high → ⊥) → JudgesReply market H (Price q) reply Wrong
-no_price market H q reply none other quotes stands =
-    judges_answer market H quotes (Price q) reply Wrong (IsOpen market H quotes (Price q) reply)
-    none
-    (other_at (question_named market.network q))
-  where
-    other_at : (o : Option Asked)
-        → IsSomeAnd o (λ asked. IsPrice market.network H market.max_trades asked reply) → ⊥
-    other_at None h = h
-    other_at (Some asked) h = other h.low h.high h.printed
+no_price market H q reply none other =
+    judges_answer market H (Price q) reply Wrong none (λ quotes stands.
+    none_holds (question_named market.network q)
+    (λ asked. IsPrice market.network H market.max_trades asked reply)
+    (λ asked h. other h.low h.high h.printed))
 
 -- ---- cash
 
@@ -105,11 +94,11 @@ pub worst_told : (market : Market) (H : List Entry) (name : List ℕ) (factor : 
     → JudgesCash j factor small most_trades b low high
     → JudgesReply market H (Worst name) (Worsted low high) j
 worst_told market H name factor small most_trades b low high j none evidence tells trades points
-    says quotes stands =
+    says =
     let network = market.network in
     let u = user_number H name in
-    judges_answer market H quotes (Worst name) (Worsted low high) j _ none
-    (judges_some (least_gain network H u always) _
+    judges_answer market H (Worst name) (Worsted low high) j none (λ quotes stands.
+    judges_some (least_gain network H u always) _
     (λ g. IsWorst (IsSmall network H) (HoldsNoTrade H u) (sharpness market.max_trades)
     (factor_with H u g) market.points_per_bit (Worsted low high))
     (λ g. IsCashOpen market H u (factor_with H u g) (low, high)) j evidence
@@ -134,17 +123,12 @@ pub no_worst : (market : Market) (H : List Entry) (name : List ℕ) (reply : Rep
     → first_refusal market H (Worst name) ≡ None
     → ((low high : ℕ) → reply ≡ Worsted low high → ⊥)
     → JudgesReply market H (Worst name) reply Wrong
-no_worst market H name reply none other quotes stands =
-    judges_answer market H quotes (Worst name) reply Wrong
-    (IsOpen market H quotes (Worst name) reply) none
-    (other_at (least_gain market.network H (user_number H name) always))
-  where
-    other_at : (o : Option ℕ)
-        → IsSomeAnd o (λ g. IsWorst (IsSmall market.network H)
-        (HoldsNoTrade H (user_number H name)) (sharpness market.max_trades)
-        (factor_with H (user_number H name) g) market.points_per_bit reply) → ⊥
-    other_at None h = h
-    other_at (Some g) h = other h.low h.high h.printed
+no_worst market H name reply none other =
+    let u = user_number H name in
+    judges_answer market H (Worst name) reply Wrong none (λ quotes stands.
+    none_holds (least_gain market.network H u always)
+    (λ g. IsWorst (IsSmall market.network H) (HoldsNoTrade H u) (sharpness market.max_trades)
+    (factor_with H u g) market.points_per_bit reply) (λ g h. other h.low h.high h.printed))
 
 -- ---- withdrawals
 
@@ -161,11 +145,11 @@ module _ (market : Market) (H : List Entry) (name : List ℕ) (bits : ℕ)
       → IsLeastFactorOf (evidence_grade market H) market.network H its_number always factor
       → JudgesCovered j factor bits
       → JudgesReply market H (Withdraw name bits) (Withdrawn name bits (revision H + 1)) j
-  withdrawn_told factor j evidence says quotes stands =
+  withdrawn_told factor j evidence says =
       let network = market.network in
       let told = Withdrawn name bits (revision H + 1) in
-      judges_answer market H quotes (Withdraw name bits) told j _ none
-      (judges_some (least_gain network H its_number always) _ (IsTaken told)
+      judges_answer market H (Withdraw name bits) told j none (λ quotes stands.
+      judges_some (least_gain network H its_number always) _ (IsTaken told)
       (λ g. AreBitsOpen market H its_number (factor_with H its_number g) bits) j evidence
       (λ g its. judges_as j (Covers (factor_with H its_number g) bits) _ _ _
       (λ covers. inl (covers, refl)) (from g) (λ o. o)
@@ -182,11 +166,11 @@ module _ (market : Market) (H : List Entry) (name : List ℕ) (bits : ℕ)
       → TellsSmall small market H → most_trades ≡ market.max_trades
       → JudgesMost j factor small most_trades most
       → JudgesReply market H (Withdraw name bits) (Refused (Short most)) j
-  short_told factor small most_trades most j less evidence tells trades says quotes stands =
+  short_told factor small most_trades most j less evidence tells trades says =
       let network = market.network in
       let told = Refused (Short most) in
-      judges_answer market H quotes (Withdraw name bits) told j _ none
-      (judges_some (least_gain network H its_number always) _ (IsTaken told)
+      judges_answer market H (Withdraw name bits) told j none (λ quotes stands.
+      judges_some (least_gain network H its_number always) _ (IsTaken told)
       (λ g. IsMostOpen market H its_number (factor_with H its_number g) most) j evidence
       (λ g its. judges_as j (IsMost (IsSmall network H) (HoldsNoTrade H its_number)
       (sharpness market.max_trades) (factor_with H its_number g) most) _ _ _
@@ -209,18 +193,13 @@ module _ (market : Market) (H : List Entry) (name : List ℕ) (bits : ℕ)
   pub not_taken : (reply : Reply) → (reply ≡ Withdrawn name bits (revision H + 1) → ⊥)
       → ((most : ℕ) → most < bits → reply ≡ Refused (Short most) → ⊥)
       → JudgesReply market H (Withdraw name bits) reply Wrong
-  not_taken reply other another quotes stands =
-      judges_answer market H quotes (Withdraw name bits) reply Wrong
-      (IsOpen market H quotes (Withdraw name bits) reply) none
-      (other_at (least_gain market.network H its_number always))
+  not_taken reply other another =
+      judges_answer market H (Withdraw name bits) reply Wrong none (λ quotes stands.
+      none_holds (least_gain market.network H its_number always) (IsTaken reply) neither)
     where
       neither : (g : ℕ) → IsTaken reply g → ⊥
       neither g (inl taken) = other taken.1
       neither g (inr short) = another short.most short.less short.printed
-
-      other_at : (o : Option ℕ) → IsSomeAnd o (IsTaken reply) → ⊥
-      other_at None h = h
-      other_at (Some g) h = neither g h
 
 -- ---- the operator's loss
 
@@ -272,10 +251,10 @@ module _ (market : Market) (H : List Entry) (none : first_refusal market H Bound
     pub bound_told : (variables b : ℕ) → variables ≡ length market.network
         → b ≡ points → JudgesBound j least variables b low high
         → JudgesReply market H Bound (Risked low high) j
-    bound_told variables b count same says quotes stands =
+    bound_told variables b count same says =
         let network = market.network in
-        judges_answer market H quotes Bound (Risked low high) j _ none
-        (judges_as j (IsSomeAnd (least_weight network H)
+        judges_answer market H Bound (Risked low high) j none (λ quotes stands.
+        judges_as j (IsSomeAnd (least_weight network H)
         (λ w. CoversBound (initial_total network) w points low high)) _ _ _
         (λ covers. record { low = low; high = high; printed = refl; covers = covers }) from (λ o. o)
         (of_least (initial_total network) evidence.weight (least_weight network H) evidence.is_least
@@ -294,6 +273,6 @@ module _ (market : Market) (H : List Entry) (none : first_refusal market H Bound
 
   pub no_bound : (reply : Reply) → ((low high : ℕ) → reply ≡ Risked low high → ⊥)
       → JudgesReply market H Bound reply Wrong
-  no_bound reply other quotes stands =
-      judges_answer market H quotes Bound reply Wrong (IsOpen market H quotes Bound reply) none
-      (λ h. other h.low h.high h.printed)
+  no_bound reply other =
+      judges_answer market H Bound reply Wrong none
+      (λ quotes stands h. other h.low h.high h.printed)

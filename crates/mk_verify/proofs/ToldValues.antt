@@ -28,7 +28,7 @@ use Rattle.mk_judge.specs.declared.judged.Judged.{Judged}
 use Rattle.mk_judge.specs.Judged.{Judges}
 use Rattle.mk_answers.specs.Evidence.{IsLeastFactorOf, IsFactorOf}
 use Rattle.mk_evidence.specs.Grades.{evidence_grade}
-use Rattle.mk_verify.specs.Clear.{IsOpen, IsPlaceOpen, IsPriceOpen, IsCashOpen, IsLeastCashOpen}
+use Rattle.mk_verify.specs.Clear.{IsPlaceOpen, IsPriceOpen, IsCashOpen, IsLeastCashOpen}
 use Rattle.mk_judge_quotes.specs.Small.{TellsSmall}
 use Rattle.mk_verify.specs.inner.Judging.{JudgesReply, AreBoundsOfPrices, AreSureFactorsOf}
 use Rattle.mk_verify.proofs.Exactness.{JudgesCash, cash_judged}
@@ -37,7 +37,7 @@ use Rattle.mk_judge.specs.Prices.{HavePriceRange}
 use Rattle.mk_net.specs.Bounds.{max_points_per_bit, sharpness}
 use Rattle.mk_answers.specs.Evidence.{AreBoundsOfPrice, IsSureFactor}
 use Rattle.mk_verify.proofs.Places.{each_ranged}
-use Rattle.mk_verify.proofs.Verdicts.{judges_some, judges_answer}
+use Rattle.mk_verify.proofs.Verdicts.{judges_some, none_holds, judges_answer}
 
 pub least_judged : (market : Market) (H : List Entry) (u : ℕ) (test : List ℕ → Bool)
     (factor : Factor) (small : Bool) (most_trades b low high : ℕ) (j : Judged)
@@ -64,17 +64,16 @@ least_judged market H u test factor small most_trades b low high j tells sound t
 module _ (market : Market) (H : List Entry) (v : List ℕ) (condition : ArrayVec PairText)
     (none : first_refusal market H (Prices v condition) ≡ None) where
   pub prices_told : (bounds : List (Option PriceBounds)) (intervals : ArrayVec (ℕ × ℕ))
-      (small : Bool) (j : Judged) → TellsSmall small market H
-      → IsSomeAnd (spread_named market.network v condition.items)
+      (j : Judged) → IsSomeAnd (spread_named market.network v condition.items)
       (λ spread. AreBoundsOfPrices market H spread bounds)
       → ((spread : SpreadAsked) → AreBoundsOfPrices market H spread bounds
       → Judges j (ArePricesOf market.network H market.max_trades spread intervals.items)
       (IsPlaceOpen intervals.items (λ value ends. IsPriceOpen market H (asked_of spread value) ends)))
       → JudgesReply market H (Prices v condition) (PricesTold intervals) j
-  prices_told bounds intervals small j tells evidence judged quotes stands =
+  prices_told bounds intervals j evidence judged =
       let network = market.network in
-      judges_answer market H quotes (Prices v condition) (PricesTold intervals) j _ none
-      (judges_some (spread_named network v condition.items)
+      judges_answer market H (Prices v condition) (PricesTold intervals) j none (λ quotes stands.
+      judges_some (spread_named network v condition.items)
       (λ spread. AreBoundsOfPrices market H spread bounds)
       (λ spread. ArePrices network H market.max_trades spread (PricesTold intervals))
       (λ spread. IsPlaceOpen intervals.items
@@ -96,15 +95,11 @@ module _ (market : Market) (H : List Entry) (v : List ℕ) (condition : ArrayVec
   pub no_prices : (reply : Reply)
       → ((intervals : ArrayVec (ℕ × ℕ)) → reply ≡ PricesTold intervals → ⊥)
       → JudgesReply market H (Prices v condition) reply Wrong
-  no_prices reply other quotes stands =
-      judges_answer market H quotes (Prices v condition) reply Wrong
-      (IsOpen market H quotes (Prices v condition) reply) none
-      (other_at (spread_named market.network v condition.items))
-    where
-      other_at : (o : Option SpreadAsked)
-          → IsSomeAnd o (λ spread. ArePrices market.network H market.max_trades spread reply) → ⊥
-      other_at None h = h
-      other_at (Some spread) h = other h.intervals h.printed
+  no_prices reply other =
+      judges_answer market H (Prices v condition) reply Wrong none (λ quotes stands.
+      none_holds (spread_named market.network v condition.items)
+      (λ spread. ArePrices market.network H market.max_trades spread reply)
+      (λ spread h. other h.intervals h.printed))
 
 -- ---- a position
 
@@ -128,10 +123,10 @@ module _ (market : Market) (H : List Entry) (name v : List ℕ) (condition : Arr
       intervals.items) (IsPlaceOpen intervals.items (λ value ends. IsSomeAnd ends
       (IsLeastCashOpen market H its_number (with_target (asked_of spread value))))))
       → JudgesReply market H (Position name v condition) (PositionTold intervals) j
-  position_told factors intervals j evidence judged quotes stands =
+  position_told factors intervals j evidence judged =
       let network = market.network in
-      judges_answer market H quotes (Position name v condition) (PositionTold intervals) j _ none
-      (judges_some (spread_named network v condition.items)
+      judges_answer market H (Position name v condition) (PositionTold intervals) j none
+      (λ quotes stands. judges_some (spread_named network v condition.items)
       (λ spread. AreSureFactorsOf market H its_number spread factors)
       (λ spread. IsTold spread (PositionTold intervals))
       (λ spread. IsPlaceOpen intervals.items (λ value ends. IsSomeAnd ends
@@ -154,14 +149,10 @@ module _ (market : Market) (H : List Entry) (name v : List ℕ) (condition : Arr
   pub no_position : (reply : Reply)
       → ((intervals : ArrayVec (Option (ℕ × ℕ))) → reply ≡ PositionTold intervals → ⊥)
       → JudgesReply market H (Position name v condition) reply Wrong
-  no_position reply other quotes stands =
-      judges_answer market H quotes (Position name v condition) reply Wrong
-      (IsOpen market H quotes (Position name v condition) reply) none
-      (other_at (spread_named market.network v condition.items))
-    where
-      other_at : (o : Option SpreadAsked) → IsSomeAnd o (λ spread. IsTold spread reply) → ⊥
-      other_at None h = h
-      other_at (Some spread) h = other h.intervals h.printed
+  no_position reply other =
+      judges_answer market H (Position name v condition) reply Wrong none (λ quotes stands.
+      none_holds (spread_named market.network v condition.items) (λ spread. IsTold spread reply)
+      (λ spread h. other h.intervals h.printed))
 
 -- ---- ranges
 

@@ -1,22 +1,27 @@
 //! The judge of a reply to any command.
 ghost use Rattle.mk_command.specs.Commands.{command_of};
-ghost use Rattle.mk_command.specs.inner.Kinds.{IsOfValues};
 ghost use Rattle.mk_reply.specs.Replies.{IsReply};
 ghost use Rattle.mk_rules.specs.Answers.{IsAllowed};
 ghost use Rattle.mk_rules.specs.Standings.{Stands};
 ghost use Rattle.mk_market.specs.Trading.{IsOnlyAsked};
 ghost use Rattle.mk_judge.specs.Judged.{Judges};
 ghost use Rattle.mk_verify.specs.Clear.{IsOpen};
+ghost use Rattle.mk_verify.specs.inner.Judging.{IsUnquoted, JudgesReply};
+ghost use Rattle.mk_judge_quotes.specs.Small.{TellsSmall};
 ghost use Rattle.mk_known.specs.Known.{IsKnown};
 
-use crate::editing::{AskedEdit, judge_edit_reply, judge_limits_reply};
-use crate::numbers::{judge_bound_reply, judge_price_reply, judge_withdrawal, judge_worst_reply};
-use crate::numbers_of_values::{judge_position, judge_prices};
+use crate::numbers::{
+    judge_bound_reply, judge_position, judge_price_reply, judge_prices, judge_withdrawal,
+    judge_worst_reply,
+};
 use crate::plain::{
     judge_addition, judge_deposit, judge_join, judge_paid, judge_resolution, judge_status,
 };
+use crate::quoting::{
+    AskedEdit, AskedSpread, judge_bounds_reply, judge_edit_reply, judge_limits_reply,
+    judge_spread_reply,
+};
 use crate::settlement::judge_settlement;
-use crate::spreading::{AskedSpread, judge_bounds_reply, judge_spread_reply};
 use mk_command::CommandRef;
 use mk_engine::TreeGraded;
 use mk_judge::Judged;
@@ -43,14 +48,7 @@ pub fn judge<P: TreeGraded<SumProd>, A: TreeGraded<MinProd>>(
         (IsOpen market.old.market (market.old.standing).history known.now.quotes
         (command_of command.now) reply.now) }
 {
-    let small = known.is_small();
     match command {
-        CommandRef::User { user } => judge_join(market, user, reply),
-        CommandRef::Deposit { user, bits } => judge_deposit(market, user, *bits, reply),
-        CommandRef::Withdraw { user, bits } => {
-            judge_withdrawal(market, small, user, *bits, reply)
-        }
-        CommandRef::Price { question } => judge_price_reply(market, small, question, reply),
         CommandRef::Limits { user, question } => {
             judge_limits_reply(market, known, user, question, reply)
         }
@@ -67,41 +65,6 @@ pub fn judge<P: TreeGraded<SumProd>, A: TreeGraded<MinProd>>(
             };
             judge_edit_reply(market, known, user, asked, reply)
         }
-        CommandRef::Worst { user } => judge_worst_reply(market, small, user, reply),
-        CommandRef::Resolve { pair } => judge_resolution(market, pair, reply),
-        CommandRef::Settle => judge_settlement(market, small, reply),
-        CommandRef::Bound => judge_bound_reply(market, reply),
-        CommandRef::Status => judge_status(market, reply),
-        CommandRef::Paid { user } => judge_paid(market, user, reply),
-        CommandRef::Add { addition } => judge_addition(market, addition, reply),
-        CommandRef::Bounds { .. }
-        | CommandRef::Spread { .. }
-        | CommandRef::Prices { .. }
-        | CommandRef::Position { .. } => judge_of_values(market, known, command, reply),
-    }
-}
-
-/// The same of a command that speaks of every value of a variable.
-#[tactic(auto, unfolding(mk_command::specs::Commands::command_of))]
-fn judge_of_values<P: TreeGraded<SumProd>, A: TreeGraded<MinProd>>(
-    market: &mut Market<P, A>,
-    known: &Known,
-    command: &CommandRef,
-    reply: &Reply,
-) -> Judged
-    requires known { IsKnown market.old.market (market.old.standing).history known.now }
-    requires command { IsOfValues (command_of command.now) }
-    requires reply { IsReply reply.now }
-    ensures same { IsOnlyAsked market.old market.new }
-    ensures judged { Stands market.old.market (market.old.standing).history
-        → Judges result
-        (IsAllowed market.old.market (market.old.standing).history known.now.quotes
-        (command_of command.now) reply.now)
-        (IsOpen market.old.market (market.old.standing).history known.now.quotes
-        (command_of command.now) reply.now) }
-{
-    let small = known.is_small();
-    match command {
         CommandRef::Bounds {
             user,
             variable,
@@ -122,6 +85,39 @@ fn judge_of_values<P: TreeGraded<SumProd>, A: TreeGraded<MinProd>>(
             };
             judge_spread_reply(market, known, user, asked, reply)
         }
+        _ => judge_unquoted(market, known.is_small(), command, reply),
+    }
+}
+
+/// The same of a command on whose reply no quote bears.
+#[tactic(auto, unfolding(mk_command::specs::Commands::command_of))]
+fn judge_unquoted<P: TreeGraded<SumProd>, A: TreeGraded<MinProd>>(
+    market: &mut Market<P, A>,
+    small: bool,
+    command: &CommandRef,
+    reply: &Reply,
+) -> Judged
+    requires small { TellsSmall small market.old.market (market.old.standing).history }
+    requires command { IsUnquoted (command_of command.now) }
+    requires reply { IsReply reply.now }
+    ensures same { IsOnlyAsked market.old market.new }
+    ensures judged { JudgesReply market.old.market (market.old.standing).history
+        (command_of command.now) reply.now result }
+{
+    match command {
+        CommandRef::User { user } => judge_join(market, user, reply),
+        CommandRef::Deposit { user, bits } => judge_deposit(market, user, *bits, reply),
+        CommandRef::Withdraw { user, bits } => {
+            judge_withdrawal(market, small, user, *bits, reply)
+        }
+        CommandRef::Price { question } => judge_price_reply(market, small, question, reply),
+        CommandRef::Worst { user } => judge_worst_reply(market, small, user, reply),
+        CommandRef::Resolve { pair } => judge_resolution(market, pair, reply),
+        CommandRef::Settle => judge_settlement(market, small, reply),
+        CommandRef::Bound => judge_bound_reply(market, reply),
+        CommandRef::Status => judge_status(market, reply),
+        CommandRef::Paid { user } => judge_paid(market, user, reply),
+        CommandRef::Add { addition } => judge_addition(market, addition, reply),
         CommandRef::Prices {
             variable,
             condition,

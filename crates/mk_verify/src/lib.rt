@@ -3,13 +3,11 @@
 #![tactic(auto)]
 
 mod each;
-mod editing;
 mod judging;
 mod numbers;
-mod numbers_of_values;
 mod plain;
+mod quoting;
 mod refused;
 mod settlement;
-mod spreading;
 
 pub use judging::judge;

@@ -1,25 +1,29 @@
 //! Judgements of replies that tell numbers.
-ghost use Rattle.std.specs.Prelude.{◌≡◌, ◌+◌, ◌<◌, ◌↔◌, ℕ, true, IfSome, IfNone};
-ghost use Rattle.mk_exact.specs.History.{revision};
+ghost use Rattle.std.specs.Prelude.{◌≡◌, ◌<◌, ℕ, IfSome, IfNone};
 ghost use Rattle.mk_reply.specs.declared.refusal.Refusal.TheVariants.{Short};
-ghost use Rattle.mk_reply.specs.declared.reply.Reply.TheVariants.{Withdrawn, Refused};
+ghost use Rattle.mk_reply.specs.declared.reply.Reply.TheVariants.{Refused};
 ghost use Rattle.mk_command.specs.declared.command.Command.TheVariants as command;
 ghost use Rattle.mk_reply.specs.Replies.{IsReply};
 ghost use Rattle.mk_market.specs.Trading.{IsOnlyAsked};
 ghost use Rattle.mk_verify.specs.inner.Judging.{JudgesReply};
 ghost use Rattle.mk_judge_quotes.specs.Small.{TellsSmall};
 
-use crate::plain::is_next;
+use crate::each::{judge_each_position, judge_each_price};
 use crate::refused::judge_refused;
-use mk_engine::{Engine, TreeGraded};
-use mk_evidence::{bound_evidence, price_evidence, withdrawal_evidence, worst_evidence};
+use arrayvec::ArrayVec;
+use mk_engine::TreeGraded;
+use mk_evidence::{
+    bound_evidence, position_evidence, price_evidence, prices_evidence, withdrawal_evidence,
+    worst_evidence,
+};
 use mk_judge::{Judged, judge_price};
 use mk_judge_points::{judge_bound, judge_cash, judge_covered, judge_most};
 use mk_market::Market;
 use mk_names::Name;
-use mk_net::QuestionText;
+use mk_net::{PairText, QuestionText};
 use mk_reply::{Refusal, Reply};
 use mk_semiring::{MinProd, SumProd};
+use mk_told::tells_withdrawal;
 
 /// Judges a reply to `price`.
 pub fn judge_price_reply<P: TreeGraded<SumProd>, A: TreeGraded<MinProd>>(
@@ -90,7 +94,7 @@ pub fn judge_withdrawal<P: TreeGraded<SumProd>, A: TreeGraded<MinProd>>(
     match withdrawal_evidence(market, name, bits) {
         Err(why) => judge_refused(&why, reply),
         Ok(factor) => {
-            if tells_withdrawal(market, name, bits, reply) {
+            if tells_withdrawal(market.history(), name, bits, reply) {
                 return judge_covered(&factor, bits as u64);
             }
             match told_most(bits, reply) {
@@ -98,26 +102,6 @@ pub fn judge_withdrawal<P: TreeGraded<SumProd>, A: TreeGraded<MinProd>>(
                 None => Judged::Wrong,
             }
         }
-    }
-}
-
-/// Whether a reply tells that the user took out so many bits by the next change.
-fn tells_withdrawal<P: Engine<SumProd>, A: Engine<MinProd>>(
-    market: &Market<P, A>,
-    name: &Name,
-    bits: u32,
-    reply: &Reply,
-) -> bool
-    ensures { (result ≡ true) ↔ (reply.now ≡ Withdrawn name.now bits
-        (revision (market.now.standing).history + 1)) }
-{
-    match reply {
-        Reply::Withdrawn {
-            user,
-            bits: taken,
-            at,
-        } if *taken == bits => user == name && is_next(market, *at),
-        _ => false,
     }
 }
 
@@ -154,6 +138,63 @@ pub fn judge_bound_reply<P: TreeGraded<SumProd>, A: TreeGraded<MinProd>>(
                 market.points_per_bit(),
                 *low,
                 *high,
+            ),
+            _ => Judged::Wrong,
+        },
+    }
+}
+
+/// Judges a reply to `prices`.
+pub fn judge_prices<P: TreeGraded<SumProd>, A: TreeGraded<MinProd>>(
+    market: &mut Market<P, A>,
+    small: bool,
+    variable: &Name,
+    condition: &ArrayVec<PairText, 8>,
+    reply: &Reply,
+) -> Judged
+    requires small { TellsSmall small market.old.market (market.old.standing).history }
+    ensures same { market.new ≡ market.old }
+    ensures judged { JudgesReply market.old.market (market.old.standing).history
+        (command.Prices variable.now condition.now) reply.now result }
+{
+    match prices_evidence(market, variable, condition) {
+        Err(why) => judge_refused(&why, reply),
+        Ok(bounds) => match reply {
+            Reply::Prices { intervals } => judge_each_price(
+                bounds.as_slice(),
+                small,
+                market.max_trades(),
+                intervals.as_slice(),
+            ),
+            _ => Judged::Wrong,
+        },
+    }
+}
+
+/// Judges a reply to `position`.
+pub fn judge_position<P: TreeGraded<SumProd>, A: TreeGraded<MinProd>>(
+    market: &mut Market<P, A>,
+    small: bool,
+    name: &Name,
+    variable: &Name,
+    condition: &ArrayVec<PairText, 8>,
+    reply: &Reply,
+) -> Judged
+    requires small { TellsSmall small market.old.market (market.old.standing).history }
+    requires reply { IsReply reply.now }
+    ensures same { IsOnlyAsked market.old market.new }
+    ensures judged { JudgesReply market.old.market (market.old.standing).history
+        (command.Position name.now variable.now condition.now) reply.now result }
+{
+    match position_evidence(market, name, variable, condition) {
+        Err(why) => judge_refused(&why, reply),
+        Ok(factors) => match reply {
+            Reply::Position { intervals } => judge_each_position(
+                factors.as_slice(),
+                small,
+                market.max_trades(),
+                market.points_per_bit(),
+                intervals.as_slice(),
             ),
             _ => Judged::Wrong,
         },

@@ -1,8 +1,11 @@
 //! Judgements of replies that are decided by their words alone.
-ghost use Rattle.std.specs.Prelude.{◌≡◌, ◌+◌, ◌↔◌, true};
+ghost use Rattle.std.specs.Prelude.{◌≡◌, ◌+◌, ◌⊎◌, ◌↔◌, true};
+ghost use Rattle.mk_addition.specs.Adds.{IsAddText};
 ghost use Rattle.mk_exact.specs.History.{revision};
 ghost use Rattle.mk_command.specs.declared.command.Command.TheVariants as command;
-ghost use Rattle.mk_verify.specs.inner.Judging.{JudgesReply, IsPlainAnswer, by_words};
+ghost use Rattle.mk_reply.specs.declared.refusal.Refusal.TheVariants.{Memory};
+ghost use Rattle.mk_reply.specs.declared.reply.Reply.TheVariants.{Added, Refused};
+ghost use Rattle.mk_verify.specs.inner.Judging.{JudgesReply, by_words};
 
 use crate::refused::judge_refused;
 use mk_addition::AddText;
@@ -14,13 +17,7 @@ use mk_names::Name;
 use mk_net::PairText;
 use mk_reply::{Refusal, Reply};
 use mk_semiring::{MinProd, SumProd};
-
-/// Whether a revision is that behind the next change.
-pub fn is_next<P: Engine<SumProd>, A: Engine<MinProd>>(market: &Market<P, A>, at: u64) -> bool
-    ensures { (result ≡ true) ↔ (at ≡ revision (market.now.standing).history + 1) }
-{
-    at > 0 && at - 1 == market.history().revision()
-}
+use mk_told::{has_text, tells_addition, tells_deposit, tells_join, tells_resolution};
 
 /// What is judged by words alone is never left open.
 pub fn judge_words(allowed: bool) -> Judged
@@ -30,6 +27,19 @@ pub fn judge_words(allowed: bool) -> Judged
         Judged::Allowed
     } else {
         Judged::Wrong
+    }
+}
+
+/// Whether a reply tells what was done, or that memory was wanting.
+fn or_want(tells: bool, reply: &Reply) -> bool
+    ensures { (result ≡ true) ↔ ((tells ≡ true) ⊎ (reply.now ≡ Refused Memory)) }
+{
+    if tells {
+        return true;
+    }
+    match reply {
+        Reply::Refused { why } => matches!(why, Refusal::Memory),
+        _ => false,
     }
 }
 
@@ -44,22 +54,7 @@ pub fn judge_join<P: Engine<SumProd>, A: Engine<MinProd>>(
 {
     match refused_join(market, name) {
         Err(why) => judge_refused(&why, reply),
-        Ok(()) => judge_words(tells_join(market, name, reply)),
-    }
-}
-
-fn tells_join<P: Engine<SumProd>, A: Engine<MinProd>>(
-    market: &Market<P, A>,
-    name: &Name,
-    reply: &Reply,
-) -> bool
-    ensures { (result ≡ true) ↔ IsPlainAnswer (market.now.standing).history
-        (command.User name.now) reply.now }
-{
-    match reply {
-        Reply::Joined { user, at } => user == name && is_next(market, *at),
-        Reply::Refused { why } => matches!(why, Refusal::Memory),
-        _ => false,
+        Ok(()) => judge_words(or_want(tells_join(market.history(), name, reply), reply)),
     }
 }
 
@@ -75,25 +70,20 @@ pub fn judge_addition<P: Engine<SumProd>, A: Engine<MinProd>>(
 {
     match refused_addition(market, add) {
         Err(why) => judge_refused(&why, reply),
-        Ok(()) => judge_words(tells_addition(market, add, reply)),
+        Ok(()) => judge_words(or_want(tells_question(market, add, reply), reply)),
     }
 }
 
-fn tells_addition<P: Engine<SumProd>, A: Engine<MinProd>>(
+/// Whether a line could have the words of a question, and a reply tells that it was added.
+fn tells_question<P: Engine<SumProd>, A: Engine<MinProd>>(
     market: &Market<P, A>,
     add: &AddText,
     reply: &Reply,
 ) -> bool
-    ensures { (result ≡ true) ↔ IsPlainAnswer (market.now.standing).history
-        (command.Add add.now) reply.now }
+    ensures { (result ≡ true) ↔ (IsAddText add.now × (reply.now ≡ Added add.now.variable
+        (revision (market.now.standing).history + 1))) }
 {
-    match reply {
-        Reply::Added { variable, at } => {
-            mk_told::has_text(add) && *variable == add.variable && is_next(market, *at)
-        }
-        Reply::Refused { why } => matches!(why, Refusal::Memory),
-        _ => false,
-    }
+    has_text(add) && tells_addition(market.history(), add, reply)
 }
 
 /// Judges a reply to `deposit`: the user paid in these bits by the next change.
@@ -108,26 +98,7 @@ pub fn judge_deposit<P: Engine<SumProd>, A: Engine<MinProd>>(
 {
     match refused_deposit(market, name, bits) {
         Err(why) => judge_refused(&why, reply),
-        Ok(()) => judge_words(tells_deposit(market, name, bits, reply)),
-    }
-}
-
-fn tells_deposit<P: Engine<SumProd>, A: Engine<MinProd>>(
-    market: &Market<P, A>,
-    name: &Name,
-    bits: u32,
-    reply: &Reply,
-) -> bool
-    ensures { (result ≡ true) ↔ IsPlainAnswer (market.now.standing).history
-        (command.Deposit name.now bits) reply.now }
-{
-    match reply {
-        Reply::Deposited {
-            user,
-            bits: told,
-            at,
-        } if *told == bits => user == name && is_next(market, *at),
-        _ => false,
+        Ok(()) => judge_words(tells_deposit(market.history(), name, bits, reply)),
     }
 }
 
@@ -143,21 +114,7 @@ pub fn judge_resolution<P: Engine<SumProd>, A: Engine<MinProd>>(
 {
     match refused_resolution(market, words) {
         Err(why) => judge_refused(&why, reply),
-        Ok(()) => judge_words(tells_resolution(market, words, reply)),
-    }
-}
-
-fn tells_resolution<P: Engine<SumProd>, A: Engine<MinProd>>(
-    market: &Market<P, A>,
-    words: &PairText,
-    reply: &Reply,
-) -> bool
-    ensures { (result ≡ true) ↔ IsPlainAnswer (market.now.standing).history
-        (command.Resolve words.now) reply.now }
-{
-    match reply {
-        Reply::Resolved { pair, at } => pair == words && is_next(market, *at),
-        _ => false,
+        Ok(()) => judge_words(tells_resolution(market.history(), words, reply)),
     }
 }
 

@@ -1,35 +1,31 @@
 //! Judgements of replies to `settle`.
-ghost use Rattle.std.specs.Prelude.{◌≡◌, ◌<◌, ◌^◌, ◌↔◌, ℕ, List, [], ◌∷◌, true, length, map, All};
-ghost use Rattle.std.specs.Prelude.{None};
-ghost use Rattle.mk_net.specs.Bounds.{max_payments};
-ghost use Rattle.mk_states.specs.Events.{always};
+ghost use Rattle.std.specs.Prelude.{◌≡◌, ◌+◌, ◌<◌, ◌^◌, ◌↔◌, true, length, map, All};
+ghost use Rattle.std.specs.Prelude.{None, IfSome, IfNone};
 ghost use Rattle.mk_exact.specs.Existing.{HasOutcome};
-ghost use Rattle.mk_exact.specs.History.{users};
-ghost use Rattle.mk_exact.specs.Sound.{IsSound};
-ghost use Rattle.mk_exact.specs.Weight.{possible_states};
+ghost use Rattle.mk_exact.specs.History.{revision, users};
 ghost use Rattle.mk_command.specs.declared.command.Command.TheVariants as command;
 ghost use Rattle.mk_reply.specs.Replies.{IsReply, IsPayment as IsReadPayment};
-ghost use Rattle.mk_reply.specs.declared.reply.Reply.TheVariants.{SettledAll};
+ghost use Rattle.mk_reply.specs.declared.reply.Reply.TheVariants.{Settled};
+ghost use Rattle.mk_restore.specs.Restoring.{IsListed};
 ghost use Rattle.mk_rules.specs.Answers.{settled_by_rule};
 ghost use Rattle.mk_rules.specs.Refusals.{first_refusal};
 ghost use Rattle.mk_market.specs.Trading.{IsOnlyAsked};
 ghost use Rattle.mk_judge.specs.Judged.{Judges};
-ghost use Rattle.mk_verify.specs.Clear.{IsCashOpen, IsPaymentOpen};
-ghost use Rattle.mk_verify.specs.inner.Judging.{JudgesReply, PaysCash, PayEach};
-ghost use Rattle.mk_judge_quotes.specs.Small.{TellsSmall};
+ghost use Rattle.mk_verify.specs.Clear.{IsPaymentOpen};
+ghost use Rattle.mk_verify.specs.inner.Judging.{JudgesReply, InOneState, PaysCash, PayEach};
 ghost use Rattle.mk_verify.specs.inner.Judging.{IsPaymentLeftOpen};
+ghost use Rattle.mk_judge_quotes.specs.Small.{TellsSmall};
 
-use crate::plain::{is_next, judge_words};
+use crate::plain::judge_words;
 use crate::refused::judge_refused;
 use mk_engine::TreeGraded;
-use mk_evidence::{joined, payment_evidence, refused_settlement};
-use mk_history::Entry;
+use mk_evidence::{payment_evidence, refused_settlement};
 use mk_judge::Judged;
 use mk_judge_points::judge_cash;
 use mk_market::Market;
-use mk_record::Journal;
-use mk_reply::{Payment, Reply};
+use mk_reply::{Payment, Payments, Reply};
 use mk_semiring::{MinProd, SumProd};
+use mk_told::{tells_total, told_payments};
 
 /// Judges a reply to `settle`: each user is paid in the order of joining, by the next change. Of
 /// more users than it lists payments to, it tells how many they are, and what all are paid by rule.
@@ -46,53 +42,45 @@ pub fn judge_settlement<P: TreeGraded<SumProd>, A: TreeGraded<MinProd>>(
 {
     match refused_settlement(market) {
         Err(why) => judge_refused(&why, reply),
-        Ok(()) => match reply {
-            Reply::Settled { at, payments }
-                if is_next(market, *at) && are_to_users(market.history(), payments.rows()) =>
-                judge_payments(market, small, payments.rows()),
-            Reply::SettledAll { at, users, total } => {
-                judge_words(tells_total(market, *at, *users, *total))
-            }
-            _ => Judged::Wrong,
+        Ok(()) => match listed(market, reply) {
+            Some(payments) => judge_payments(market, small, payments.rows()),
+            None => judge_words(tells_by_rule(market, reply)),
         },
     }
 }
 
-/// Whether a settlement by rule tells the revision behind the next change, how many users joined,
-/// and what all of them are paid.
-fn tells_total<P: TreeGraded<SumProd>, A: TreeGraded<MinProd>>(
-    market: &mut Market<P, A>,
-    at: u64,
-    users: u32,
-    total: u64,
-) -> bool
-    requires unrefused { None ≡ first_refusal market.old.market (market.old.standing).history
-        command.Settle }
-    requires many { max_payments < users }
-    ensures same { market.new ≡ market.old }
-    ensures tells { (result ≡ true) ↔ (SettledAll at users total
-        ≡ settled_by_rule market.old.market (market.old.standing).history) }
+/// The payments that a reply lists behind the next change, one to each user in the order of joining.
+fn listed<'a, P: TreeGraded<SumProd>, A: TreeGraded<MinProd>>(
+    market: &Market<P, A>,
+    reply: &'a Reply,
+) -> Option<&'a Payments>
+    ensures some { IfSome result (λ payments. reply.now
+        ≡ Settled (revision (market.now.standing).history + 1) payments.now) }
+    ensures in_order { IfSome result (λ payments. map (λ p. p.user) payments.now
+        ≡ users (market.now.standing).history) }
+    ensures none { IfNone result (IsListed (revision (market.now.standing).history + 1)
+        (users (market.now.standing).history) reply.now → ⊥) }
 {
-    if !is_next(market, at) || users != joined(market) {
-        return false;
-    }
-    total == market.total_by_rule()
+    told_payments(&market.journal, &market.users, reply)
 }
 
-/// Whether there is one payment to each user, in the order of joining.
-fn are_to_users(history: &Journal, payments: &[Payment]) -> bool
-    ensures { (result ≡ true) ↔ (map (λ p. p.user) payments.now ≡ users history.now.history) }
+/// Whether a reply tells of the next change what all users are paid by rule.
+fn tells_by_rule<P: TreeGraded<SumProd>, A: TreeGraded<MinProd>>(
+    market: &mut Market<P, A>,
+    reply: &Reply,
+) -> bool
+    requires { None ≡ first_refusal market.old.market (market.old.standing).history
+        command.Settle }
+    ensures same { market.new ≡ market.old }
+    ensures tells { (result ≡ true) ↔ (reply.now
+        ≡ settled_by_rule market.old.market (market.old.standing).history) }
 {
-    let mut paid = 0;
-    for number in 0..history.length() {
-        if let Entry::Join { user } = history.entry(number) {
-            if paid >= payments.len() || payments[paid].user != user {
-                return false;
-            }
-            paid += 1;
+    match reply {
+        Reply::SettledAll { total, .. } => {
+            tells_total(market.history(), *total, reply) && *total == market.total_by_rule()
         }
+        _ => false,
     }
-    paid == payments.len()
 }
 
 /// Judges the payments to the first users.
@@ -107,13 +95,9 @@ fn judge_payments<P: TreeGraded<SumProd>, A: TreeGraded<MinProd>>(
     requires fits { All IsReadPayment payments.now }
     requires few { length payments.now < 2 ^ 32 }
     ensures same { IsOnlyAsked market.old market.new }
-    ensures judged { (state : List ℕ)
-        → IsSound market.old.market.network
-        (market.old.standing).history
-        → possible_states market.old.market.network
-        (market.old.standing).history always ≡ state ∷ []
-        → Judges result (PayEach market.old.market (market.old.standing).history state payments.now)
-        (IsPaymentOpen market.old.market (market.old.standing).history payments.now) }
+    ensures judged { InOneState market.old.market (market.old.standing).history (λ state.
+        Judges result (PayEach market.old.market (market.old.standing).history state payments.now)
+        (IsPaymentOpen market.old.market (market.old.standing).history payments.now)) }
 {
     let mut judged = Judged::Allowed;
     for user in 0..payments.len() {
@@ -134,14 +118,11 @@ fn judge_payment<P: TreeGraded<SumProd>, A: TreeGraded<MinProd>>(
     requires user { user < length (users (market.old.standing).history) }
     requires fits { IsReadPayment payment.now }
     ensures same { IsOnlyAsked market.old market.new }
-    ensures judged { (state : List ℕ)
-        → IsSound market.old.market.network
-        (market.old.standing).history
-        → possible_states market.old.market.network
-        (market.old.standing).history always ≡ state ∷ []
-        → Judges result
+    ensures judged { InOneState market.old.market (market.old.standing).history (λ state.
+        Judges result
         (PaysCash market.old.market (market.old.standing).history state user payment.now)
-        (IsPaymentLeftOpen market.old.market (market.old.standing).history state user payment.now) }
+        (IsPaymentLeftOpen market.old.market (market.old.standing).history state user
+        payment.now)) }
 {
     if payment.paid != payment.low {
         return Judged::Wrong;

@@ -1,25 +1,22 @@
 -- What the judge of one command's replies says.
-use Rattle.std.specs.Prelude.{◌≡◌, ℕ, ◌+◌, Bool, true, false, List, Option, Some, IsSomeAnd}
-use Rattle.std.specs.Prelude.{slice_get, ◌⊎◌}
+use Rattle.std.specs.Prelude.{◌≡◌, ℕ, Bool, true, false, List, Option, Some, IsSomeAnd}
+use Rattle.std.specs.Prelude.{⊤, [], ◌∷◌, slice_get}
 use Rattle.std.specs.List.{AllZip}
 use Rattle.mk_net.specs.Bounds.{sharpness}
-use Rattle.mk_states.specs.Events.{with_target}
-use Rattle.mk_exact.specs.History.{Entry, revision}
+use Rattle.mk_states.specs.Events.{always, with_target}
+use Rattle.mk_exact.specs.History.{Entry}
 use Rattle.mk_exact.specs.Market.{Market}
-use Rattle.mk_exact.specs.Weight.{IsSmall}
+use Rattle.mk_exact.specs.Sound.{IsSound}
+use Rattle.mk_exact.specs.Weight.{IsSmall, possible_states}
 use Rattle.mk_exact.specs.Factors.{HoldsNoTrade, factor}
 use Rattle.mk_exact.specs.Cash.{CoversCash}
 use Rattle.mk_spread.specs.Spreads.{SpreadAsked, asked_of}
 use Rattle.mk_spread.specs.Markets.{values_of}
 use Rattle.mk_enclose.specs.declared.factor.Factor.{Factor}
-use Rattle.mk_addition.specs.Adds.{IsAddText}
 use Rattle.mk_command.specs.declared.command.Command.{Command}
-use Rattle.mk_command.specs.declared.command.Command.TheVariants.{User, Deposit, Resolve, Add}
-use Rattle.mk_reply.specs.declared.refusal.Refusal.TheVariants.{Memory}
+use Rattle.mk_command.specs.declared.command.Command.TheVariants.{Limits, Edit, Bounds, Spread}
 use Rattle.mk_reply.specs.declared.payments.Payment.{Payment}
 use Rattle.mk_reply.specs.declared.reply.Reply.{Reply}
-use Rattle.mk_reply.specs.declared.reply.Reply.TheVariants.{Joined, Deposited, Resolved, Added}
-use Rattle.mk_reply.specs.declared.reply.Reply.TheVariants.{Refused}
 use Rattle.mk_rules.specs.Answers.{IsAllowed}
 use Rattle.mk_rules.specs.Quotes.{Quotes}
 use Rattle.mk_rules.specs.Standings.{Stands}
@@ -31,26 +28,29 @@ use Rattle.mk_answers.specs.Evidence.{AreBoundsOfPrice, IsSureFactor}
 use Rattle.mk_evidence.specs.Grades.{evidence_grade}
 use Rattle.mk_verify.specs.Clear.{IsOpen, IsCashOpen}
 
--- the judgement of a reply to a command, whatever users were quoted
-abbrev pub JudgesReply : Market → List Entry → Command → Reply → Judged → Type 0
-JudgesReply market H command reply judged = (quotes : Quotes) → Stands market H
-    → Judges judged (IsAllowed market H quotes command reply)
-    (IsOpen market H quotes command reply)
+-- the judgement of a reply to a command, where users were quoted so
+pub record JudgesQuoted (market : Market) (H : List Entry) (quotes : Quotes) (command : Command)
+    (reply : Reply) (judged : Judged) : Type 0 where
+  pub where_stands : Stands market H → Judges judged (IsAllowed market H quotes command reply)
+      (IsOpen market H quotes command reply)
+
+-- whatever they were quoted
+pub record JudgesReply (market : Market) (H : List Entry) (command : Command) (reply : Reply)
+    (judged : Judged) : Type 0 where
+  pub however_quoted : (quotes : Quotes) → JudgesQuoted market H quotes command reply judged
+
+-- a command on whose reply no quote bears
+abbrev pub IsUnquoted : Command → Type 0
+IsUnquoted (Limits user question) = ⊥
+IsUnquoted (Edit user question to at) = ⊥
+IsUnquoted (Bounds user variable condition) = ⊥
+IsUnquoted (Spread user variable condition to at) = ⊥
+IsUnquoted _ = ⊤
 
 -- what is allowed or not, and never left open
 abbrev pub by_words : Bool → Judged
 by_words true = Allowed
 by_words false = Wrong
-
--- the replies by words alone to a command that nothing of the table refuses
-abbrev pub IsPlainAnswer : List Entry → Command → Reply → Type 0
-IsPlainAnswer H (User u) reply =
-    (reply ≡ Joined u (revision H + 1)) ⊎ (reply ≡ Refused Memory)
-IsPlainAnswer H (Deposit u bits) reply = reply ≡ Deposited u bits (revision H + 1)
-IsPlainAnswer H (Resolve p) reply = reply ≡ Resolved p (revision H + 1)
-IsPlainAnswer H (Add add) reply =
-    (IsAddText add × (reply ≡ Added add.variable (revision H + 1))) ⊎ (reply ≡ Refused Memory)
-IsPlainAnswer H command reply = ⊥
 
 -- ---- lists of evidence
 
@@ -70,6 +70,11 @@ AreSureFactorsOf market H u spread factors =
     (with_target (asked_of spread value)) factor) (values_of market.network spread) factors
 
 -- ---- settlements
+
+-- what is judged by the one state that is left
+abbrev pub InOneState : Market → List Entry → (List ℕ → Type 0) → Type 0
+InOneState market H judged = (state : List ℕ) → IsSound market.network H
+    → possible_states market.network H always ≡ state ∷ [] → judged state
 
 -- a payment to a user covers the cash of its factor in a state, and is the low end
 pub record PaysCash (market : Market) (H : List Entry) (state : List ℕ) (u : ℕ)

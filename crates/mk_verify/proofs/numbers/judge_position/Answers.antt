@@ -1,16 +1,13 @@
-use Rattle.mk_command.specs.declared.command.Command.TheVariants.{Position}
 use Rattle.mk_rules.specs.Refusals.{user_number}
-use Rattle.mk_verify.proofs.ToldNumbers.{judges_same}
 use Rattle.mk_verify.proofs.ToldValues.{position_in_range, position_told}
-use Rattle.mk_verify.proofs.numbers_of_values.judge_position.Goals as goal
+use Rattle.mk_verify.proofs.numbers.judge_position.Goals as goal
 
 pub judge_each_position-requires-clause-range : goal.judge_each_position-requires-clause-range
 judge_each_position-requires-clause-range g c =
-    let market = c.args.market.now.market in
-    let H = c.args.market.now.standing.history in
-    rw c.as_slice.ensures.value (position_in_range market H (user_number H c.args.name.now) _
-    c.in-Ok.factors.items c.points_per_bit.result c.points_per_bit.ensures.few
-    c.in-Ok.ensures.evidence.1)
+    rw c.as_slice.ensures.value (position_in_range c.args.market.now.market
+    c.args.market.now.standing.history (user_number c.args.market.now.standing.history
+    c.args.name.now) _ c.in-Ok.factors.items c.points_per_bit.result
+    c.points_per_bit.ensures.few (c.in-Ok.ensures.evidence.1))
 
 pub returns-in-Position-clause-judged : goal.returns-in-Position-clause-judged
 returns-in-Position-clause-judged g c =
@@ -22,8 +19,7 @@ returns-in-Position-clause-judged g c =
     let points = rw c.position_evidence.ensures.same.market at c.points_per_bit.ensures.points in
     let judged = rw (c.as_slice.ensures.value, c.as_slice-in-Position.ensures.value) at
     (c.judge_each_position.ensures market H u) in
-    judges_same market H (Position c.args.name.now c.args.variable.now c.args.condition.now)
-    c.args.reply.now _ c.judge_each_position.result c.in-Position.is
-    (position_told market H c.args.name.now c.args.variable.now c.args.condition.now found.0
-    c.in-Ok.factors.items c.in-Position.intervals c.judge_each_position.result found.1
+    rw c.in-Position.is (position_told market H c.args.name.now c.args.variable.now
+    c.args.condition.now (found.0) c.in-Ok.factors.items c.in-Position.intervals
+    c.judge_each_position.result (found.1)
     (λ spread sound its. judged spread c.requires.small sound trades points its))
