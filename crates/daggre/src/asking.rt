@@ -1,12 +1,9 @@
 //! A run of a market, behind which something is asked of its last history.
 
 ghost use Rattle.std.specs.Prelude.{◌≡◌, ◌≢◌, ◌⊎◌, ℕ, List, Some, Err, IsOk};
-ghost use Rattle.mk_io.specs.Outside.{Rose};
-ghost use Rattle.mk_file.specs.File.{file_of};
+ghost use Rattle.daggre.specs.Below.{Rose, file_of, IsMarket, AreWithin, Adds, IsTurnedAway};
+ghost use Rattle.daggre.specs.Below.{HasCauses};
 ghost use Rattle.mk_file.specs.declared.fault.FileFault.{FileFault};
-ghost use Rattle.mk_rules.specs.Standings.{IsMarket};
-ghost use Rattle.mk_session.specs.Complete.{AreWithin};
-ghost use Rattle.mk_session.specs.Outcome.{Adds, IsTurnedAway, HasCauses};
 ghost use Rattle.daggre.specs.AskOutcome.{AskOutcome};
 ghost use Rattle.daggre.specs.inner.Printing.{SaysLast};
 

@@ -2,8 +2,7 @@
 
 ghost use Rattle.std.specs.Prelude.{◌≡◌, ◌==◌, map, codes, position, Some, None, if◌then◌else◌};
 ghost use Rattle.std.specs.Prelude.{option_map, option_and_then, length, IfSome, ◌<◌};
-ghost use Rattle.mk_names.specs.Name.{is_name};
-ghost use Rattle.mk_names.specs.Texts.{same_text};
+ghost use Rattle.daggre.specs.Below.{is_name, same_text};
 ghost use Rattle.daggre.specs.Words.{pair_of, listed, ask_of, chance_in, best_in, expect_in};
 ghost use Rattle.daggre.specs.Words.{chance_around};
 

@@ -1,18 +1,13 @@
 //! A call of the program, from its arguments to its exit status.
 
-ghost use Rattle.std.specs.Vec.Iter.{into_iter_items};
+ghost use Rattle.daggre.specs.Below.{into_iter_items, Rose, code_of, file_of, AreWithin, Adds};
+ghost use Rattle.daggre.specs.Below.{Outcome, IsTurnedAway, HasCauses, HasKeepCauses, KeepOutcome};
+ghost use Rattle.daggre.specs.Below.{KeepsChanges, IsSoundStore, IsHonestStore, AreHonest};
+ghost use Rattle.daggre.specs.Below.{AuditOutcome};
 ghost use Rattle.std.specs.Prelude.{◌≡◌, ◌≢◌, ◌≤◌, ◌⊎◌, ℕ, List, [], drop, map, string_bytes};
 ghost use Rattle.std.specs.Prelude.{length};
 ghost use Rattle.std.specs.Prelude.{None, Some, Err, IsOk, IfOk, IfErr, IfSome, IfNone};
-ghost use Rattle.mk_io.specs.Outside.{Rose};
-ghost use Rattle.mk_io.specs.Status.{code_of};
-ghost use Rattle.mk_file.specs.File.{file_of};
 ghost use Rattle.mk_file.specs.declared.fault.FileFault.{FileFault};
-ghost use Rattle.mk_session.specs.Complete.{AreWithin};
-ghost use Rattle.mk_session.specs.Outcome.{Adds, Outcome, IsTurnedAway, HasCauses, HasKeepCauses};
-ghost use Rattle.mk_durable.specs.KeepOutcome.{KeepOutcome, KeepsChanges};
-ghost use Rattle.mk_durable.specs.KeepOutcome.{IsSoundStore, IsHonestStore, AreHonest};
-ghost use Rattle.mk_audit.specs.AuditOutcome.{AuditOutcome};
 ghost use Rattle.daggre.specs.Words.{Run, Sample, RunThen, Keep, Audit, asked_of, EndsUsage};
 ghost use Rattle.daggre.specs.AskOutcome.{AskOutcome};
 ghost use Rattle.daggre.specs.declared.ask.Ask.{Ask};

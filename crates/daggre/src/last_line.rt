@@ -2,18 +2,11 @@
 
 ghost use Rattle.std.specs.Prelude.{◌≡◌, ◌+◌, ◌++◌, ◌<◌, ◌≤◌, None, IfOk, length, codes};
 ghost use Rattle.std.specs.Prelude.{slice_index};
-ghost use Rattle.arrayvec.specs.ArrayString.{array_string_len};
-ghost use Rattle.mk_net.specs.Network.{sizes};
-ghost use Rattle.mk_states.specs.States.{IsState};
-ghost use Rattle.mk_engine.specs.Meaning.{ArePairsOf};
-ghost use Rattle.mk_rules.specs.Refusals.{known_pairs};
-ghost use Rattle.mk_rules.specs.Standings.{IsMarket};
-ghost use Rattle.mk_text.specs.Joined.{items_text};
-ghost use Rattle.mk_text.specs.Texts.{pair_text};
+ghost use Rattle.daggre.specs.Below.{array_string_len, sizes, IsState, ArePairsOf, known_pairs};
+ghost use Rattle.daggre.specs.Below.{IsMarket, items_text, pair_text, signed_decimal};
 ghost use Rattle.daggre.specs.LastLine.{Answers, IsLastLine, SaysBest, SaysChance, best_line};
 ghost use Rattle.daggre.specs.LastLine.{SaysOfUser, chance_line, expect_line, first_unknown};
 ghost use Rattle.daggre.specs.LastLine.{pairs_in, state_pairs};
-ghost use Rattle.std.specs.Fmt.{signed_decimal};
 ghost use Rattle.daggre.specs.inner.Printing.{HasState, pair_words};
 
 use crate::ask::Ask;

@@ -1,17 +1,13 @@
 //! The program, over any inputs, any sink and any disk.
 
 ghost use Rattle.std.specs.Prelude.{◌≡◌, ◌≢◌, ℕ, List, map, None, Some, Err, ◌⊎◌, IsOk};
-ghost use Rattle.mk_io.specs.Outside.{Rose};
-ghost use Rattle.mk_file.specs.File.{file_of};
+ghost use Rattle.daggre.specs.Below.{Rose, file_of, AreWithin, Adds, Outcome, IsTurnedAway};
+ghost use Rattle.daggre.specs.Below.{HasCauses, HasKeepCauses, KeepOutcome, KeepsChanges};
+ghost use Rattle.daggre.specs.Below.{IsSoundStore, IsHonestStore, AreHonest, AuditOutcome};
 ghost use Rattle.mk_file.specs.declared.fault.FileFault.{FileFault};
-ghost use Rattle.mk_session.specs.Complete.{AreWithin};
-ghost use Rattle.mk_session.specs.Outcome.{Adds, Outcome, IsTurnedAway, HasCauses, HasKeepCauses};
-ghost use Rattle.mk_durable.specs.KeepOutcome.{KeepOutcome, KeepsChanges};
-ghost use Rattle.mk_durable.specs.KeepOutcome.{IsSoundStore, IsHonestStore, AreHonest};
 ghost use Rattle.daggre.specs.Words.{Run, Sample, RunThen, Keep, Audit};
 ghost use Rattle.daggre.specs.Words.{asked_of, EndsUsage};
 ghost use Rattle.daggre.specs.Words.{market_named, store_named, transcript_named};
-ghost use Rattle.mk_audit.specs.AuditOutcome.{AuditOutcome};
 ghost use Rattle.daggre.specs.AskOutcome.{AskOutcome};
 ghost use Rattle.daggre.specs.declared.ask.Ask.{Ask};
 ghost use Rattle.daggre.specs.Sampled.{EndsSample};

@@ -1,11 +1,8 @@
 //! The run of a sample market, and what is written of it.
 
 ghost use Rattle.std.specs.Prelude.{◌≡◌, ◌≢◌, ℕ, ◌≤◌, OnOk, OnErr, IfOk, Result, Ok, Err};
-ghost use Rattle.mk_io.specs.Outside.{HasCause, AddsFront, append_known};
-ghost use Rattle.mk_make.specs.Sample.{sample_file, sample_commands};
-ghost use Rattle.mk_file.specs.File.{file_of};
-ghost use Rattle.mk_session.specs.Outcome.{Adds, HasCauses};
-ghost use Rattle.mk_tally.specs.Tally.{TallyEnds};
+ghost use Rattle.daggre.specs.Below.{HasCause, AddsFront, append_known, sample_file};
+ghost use Rattle.daggre.specs.Below.{sample_commands, file_of, Adds, HasCauses, TallyEnds};
 ghost use Rattle.daggre.specs.Words.{max_sample};
 ghost use Rattle.daggre.specs.Sampled.{count_lines, last_line, sample_text, EndsSample};
 ghost use Rattle.daggre.specs.Sampled.{SamplesAreWithin};

@@ -2,11 +2,8 @@
 
 ghost use Rattle.std.specs.Prelude.{◌≡◌, ◌+◌, ◌-◌, ◌*◌, ◌^◌, ◌<◌, ◌≤◌, ◌++◌};
 ghost use Rattle.std.specs.Prelude.{length, option_map};
-ghost use Rattle.arrayvec.specs.ArrayVec.{array_vec_len};
-ghost use Rattle.arrayvec.specs.ArrayString.{array_string_len};
-ghost use Rattle.mk_text.specs.Joined.{items_text};
-ghost use Rattle.mk_text.specs.Words.{IsRestOf};
-ghost use Rattle.mk_text.specs.Reading.{Finds, never};
+ghost use Rattle.mk_addition.specs.Below.{array_vec_len, array_string_len, items_text, IsRestOf};
+ghost use Rattle.mk_addition.specs.Below.{Finds, never};
 ghost use Rattle.mk_addition.specs.Adds.{joined};
 ghost use Rattle.mk_addition.specs.Reading.{more, read_list};
 

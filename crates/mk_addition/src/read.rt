@@ -1,8 +1,7 @@
 //! Reading the words of an added question.
 
 ghost use Rattle.std.specs.Prelude.{◌≡◌, ◌≢◌, IfOk, OnErr, option_map};
-ghost use Rattle.mk_text.specs.Words.{IsRestOf};
-ghost use Rattle.mk_text.specs.Reading.{Finds};
+ghost use Rattle.mk_addition.specs.Below.{IsRestOf, Finds};
 ghost use Rattle.mk_addition.specs.Adds.{IsAddText, add_text};
 ghost use Rattle.mk_addition.specs.Reading.{read_values, read_parents, read_shares};
 ghost use Rattle.mk_addition.specs.Reading.{read_place, read_addition, read_add};

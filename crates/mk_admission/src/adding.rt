@@ -1,12 +1,9 @@
 //! Added questions in words, and what they are in the numbers of a network.
 
 ghost use Rattle.std.specs.Prelude.{◌≡◌, ℕ, ◌<◌, ◌==◌, true, None, length, All};
-ghost use Rattle.std.specs.List.{list_any};
-ghost use Rattle.mk_sets.specs.Sets.{is_member};
-ghost use Rattle.mk_net.specs.Bounds.{max_variables};
-ghost use Rattle.mk_tree.specs.Tests.{members};
+ghost use Rattle.mk_admission.specs.Below.{list_any, is_member, max_variables, members};
+ghost use Rattle.mk_admission.specs.Below.{addition_of};
 ghost use Rattle.mk_rules.specs.Additions as rules;
-ghost use Rattle.mk_history.specs.Entries.{addition_of};
 
 use arrayvec::ArrayVec;
 use mk_addition::AddText;

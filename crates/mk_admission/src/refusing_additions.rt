@@ -2,18 +2,12 @@
 
 ghost use Rattle.std.specs.Prelude.{◌≡◌, ◌*◌, ◌<◌, ◌≤◌, ◌&&◌, [], ◌∷◌, length, not};
 ghost use Rattle.std.specs.Prelude.{is_none, None, IfSome, position};
-ghost use Rattle.mk_net.specs.Bounds.{max_values, max_clique_cells};
-ghost use Rattle.mk_net.specs.Firsts.{first_of};
-ghost use Rattle.mk_net.specs.Named.{variable_named};
-ghost use Rattle.mk_net.specs.Network.{sizes, choices};
-ghost use Rattle.mk_names.specs.Texts.{same_text};
-ghost use Rattle.mk_tree.specs.Checked.{IsTreeOf};
-ghost use Rattle.mk_tree.specs.Tests.{members};
-ghost use Rattle.mk_file.specs.MarketOf.{market_of};
+ghost use Rattle.mk_admission.specs.Below.{max_values, max_clique_cells, first_of, variable_named};
+ghost use Rattle.mk_admission.specs.Below.{sizes, choices, same_text, IsTreeOf, members, market_of};
+ghost use Rattle.mk_admission.specs.Below.{refusal_in};
 ghost use Rattle.mk_command.specs.declared.command.Command.TheVariants as command;
 ghost use Rattle.mk_rules.specs.Refusals as rules;
 ghost use Rattle.mk_rules.specs.Additions as additions;
-ghost use Rattle.mk_record.specs.Refused.{refusal_in};
 ghost use Rattle.mk_admission.specs.inner.Placed.{IsPlacedIn};
 
 use crate::adding::shared;
@@ -21,8 +15,8 @@ use crate::refusing_rows::has_rows;
 use mk_addition::AddText;
 use mk_file::MarketFile;
 use mk_names::Name;
+use mk_names::limits::{MAX_CELLS, MAX_CLIQUE_CELLS, MAX_VARIABLES};
 use mk_net::Network;
-use mk_net::limits::{MAX_CELLS, MAX_CLIQUE_CELLS, MAX_VARIABLES};
 use mk_record::{Journal, not_settled, refuse_if};
 use mk_reply::Refusal;
 use mk_sets::VarSet;

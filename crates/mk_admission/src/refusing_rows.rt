@@ -2,20 +2,16 @@
 
 ghost use Rattle.std.specs.Prelude.{◌≡◌, ◌<◌, ◌≤◌, ◌==◌, [], ◌∷◌, length, sum, not, All};
 ghost use Rattle.std.specs.Prelude.{Some, None, IfSome, find, option_map, position};
-ghost use Rattle.std.specs.List.{flat_map};
-ghost use Rattle.mk_net.specs.Bounds.{max_parents, million};
-ghost use Rattle.mk_net.specs.Firsts.{first_of};
-ghost use Rattle.mk_net.specs.Network.{sizes, choices};
-ghost use Rattle.mk_file.specs.MarketOf.{market_of};
+ghost use Rattle.mk_admission.specs.Below.{flat_map, max_parents, million, first_of, sizes};
+ghost use Rattle.mk_admission.specs.Below.{choices, market_of, refusal_in};
 ghost use Rattle.mk_reply.specs.declared.refusal.Refusal.TheVariants.{Sum};
 ghost use Rattle.mk_rules.specs.Refusals as rules;
 ghost use Rattle.mk_rules.specs.Additions as additions;
-ghost use Rattle.mk_record.specs.Refused.{refusal_in};
 
 use crate::adding::numbers;
 use mk_addition::AddText;
 use mk_file::MarketFile;
-use mk_net::limits::{MAX_SHARE, MILLION};
+use mk_names::limits::{MAX_SHARE, MILLION};
 use mk_net::{Network, Row};
 use mk_record::{all_in_range, is_million, refuse_if};
 use mk_reply::Refusal;

@@ -1,3 +1,4 @@
+pub mod Below
 pub mod Open
 pub mod Results
 pub mod Calls

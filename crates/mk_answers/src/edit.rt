@@ -1,16 +1,8 @@
 //! The bounds by which an edit of a question is judged.
 ghost use Rattle.std.specs.Prelude.{◌≡◌, ℕ, ◌+◌, ◌≤◌, List, slice_index};
-ghost use Rattle.mk_net.specs.Bounds.{max_values};
-ghost use Rattle.mk_net.specs.Network.{Variable, sizes};
-ghost use Rattle.mk_exact.specs.History.{Entry};
-ghost use Rattle.mk_exact.specs.Limits.{Side};
-ghost use Rattle.mk_exact.specs.Sides.{AreSides};
-ghost use Rattle.mk_exact.specs.Weight.{IsSmall};
-ghost use Rattle.mk_tree.specs.Given.{GivenTree};
-ghost use Rattle.mk_engine.specs.Meaning.{Meaning};
-ghost use Rattle.mk_enclose.specs.Enclosure.{HasGrade};
-ghost use Rattle.mk_beliefs.specs.Meanings.{weights_of, gains_of};
-ghost use Rattle.mk_assets.specs.Holdings.{Holding, Owns};
+ghost use Rattle.mk_answers.specs.Below.{max_values, Variable, sizes, Entry, Side, AreSides};
+ghost use Rattle.mk_answers.specs.Below.{IsSmall, GivenTree, Meaning, HasGrade, weights_of};
+ghost use Rattle.mk_answers.specs.Below.{gains_of, Holding, Owns};
 ghost use Rattle.mk_answers.specs.Open.{IsOpen, CanBeAnswered, AreBoundsFor, holding_of};
 ghost use Rattle.mk_answers.specs.Calls.{CanBound};
 ghost use Rattle.mk_answers.specs.Results.{AreBothLeft, AreSidesFor};

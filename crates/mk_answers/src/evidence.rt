@@ -1,23 +1,13 @@
 //! What a judge of printed numbers asks: enclosures of the exact ones, before they are rounded.
 ghost use Rattle.std.specs.Prelude.{◌≡◌, ℕ, ◌+◌, ◌≤◌, List, IfSome};
-ghost use Rattle.mk_states.specs.Events.{with_target};
-ghost use Rattle.mk_exact.specs.History.{Entry};
-ghost use Rattle.mk_exact.specs.Proper.{IsProper};
-ghost use Rattle.mk_enclose.specs.Enclosure.{widest_grade};
-ghost use Rattle.mk_tree.specs.Given.{GivenTree};
-ghost use Rattle.mk_engine.specs.Meaning.{Meaning};
-ghost use Rattle.mk_beliefs.specs.Meanings.{weights_of, rows_of};
-ghost use Rattle.mk_assets.specs.Holdings.{Holding, Owns};
-ghost use Rattle.mk_net.specs.Asked.{Asked};
-ghost use Rattle.mk_net.specs.Network.{Variable, IsNetwork};
-ghost use Rattle.mk_quote.specs.Questions.{spread_in};
+ghost use Rattle.mk_answers.specs.Below.{with_target, Entry, IsProper, widest_grade, GivenTree};
+ghost use Rattle.mk_answers.specs.Below.{Meaning, weights_of, rows_of, Holding, Owns, Asked};
+ghost use Rattle.mk_answers.specs.Below.{Variable, IsNetwork, spread_in, HasHeldGrade, gains_of};
 ghost use Rattle.mk_answers.specs.Open.{IsOpen, CanBeAnswered, CanBeSpreadHere, holding_of};
 ghost use Rattle.mk_answers.specs.Calls.{CanPrice, CanFindBound};
 ghost use Rattle.mk_answers.specs.Evidence.{IsPriceBounded, AreSureFactors, IsSureFactor};
 ghost use Rattle.mk_answers.specs.Evidence.{ArePricesBounded, ArePriceGraded, IsLeastWeight};
 ghost use Rattle.mk_answers.specs.Evidence.{grade_together};
-ghost use Rattle.mk_semiring.specs.Held.{HasHeldGrade};
-ghost use Rattle.mk_beliefs.specs.Meanings.{gains_of};
 ghost use Rattle.mk_answers.specs.Telling.{CanTellPrices, CanTellPosition};
 ghost use Rattle.mk_answers.specs.inner.Found.{AreSidesIn, HasSides, CanFindSure};
 

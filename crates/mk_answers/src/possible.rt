@@ -1,10 +1,6 @@
 //! What can come.
 ghost use Rattle.std.specs.Prelude.{◌≡◌, ◌<◌, [], List, length, IfSome};
-ghost use Rattle.mk_net.specs.Network.{Variable};
-ghost use Rattle.mk_exact.specs.History.{Entry};
-ghost use Rattle.mk_tree.specs.Given.{GivenTree};
-ghost use Rattle.mk_engine.specs.Meaning.{Meaning};
-ghost use Rattle.mk_beliefs.specs.Meanings.{weights_of};
+ghost use Rattle.mk_answers.specs.Below.{Variable, Entry, GivenTree, Meaning, weights_of};
 ghost use Rattle.mk_answers.specs.Open.{IsOpen};
 ghost use Rattle.mk_answers.specs.Calls.{CanSearch};
 ghost use Rattle.mk_answers.specs.Results.{first_impossible};

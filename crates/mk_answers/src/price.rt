@@ -1,23 +1,16 @@
 //! Prices.
 ghost use Rattle.std.specs.Prelude.{ℕ, ◌-◌, ◌≤◌, List, length};
-ghost use Rattle.mk_net.specs.Bounds.{grade_room};
-ghost use Rattle.mk_exact.specs.History.{Entry, trades};
-ghost use Rattle.mk_exact.specs.Proper.{IsProper};
-ghost use Rattle.mk_tree.specs.Given.{GivenTree};
-ghost use Rattle.mk_engine.specs.Meaning.{Meaning};
-ghost use Rattle.mk_beliefs.specs.Meanings.{weights_of};
-ghost use Rattle.mk_net.specs.Asked.{Asked};
-ghost use Rattle.mk_net.specs.Network.{Variable, IsNetwork};
+ghost use Rattle.mk_answers.specs.Below.{grade_room, Entry, trades, IsProper, GivenTree, Meaning};
+ghost use Rattle.mk_answers.specs.Below.{weights_of, Asked, Variable, IsNetwork, HasHeldGrade};
 ghost use Rattle.mk_answers.specs.Open.{IsOpen, CanBeAnswered};
 ghost use Rattle.mk_answers.specs.Calls.{CanPrice};
 ghost use Rattle.mk_answers.specs.Results.{IsPriceFor};
 ghost use Rattle.mk_answers.specs.inner.Found.{AreSidesIn, HasSides};
-ghost use Rattle.mk_semiring.specs.Held.{HasHeldGrade};
 
 use crate::found::enclosure_of;
 use mk_enclose::Enclosure;
 use mk_engine::{Engine, belief_of_others};
-use mk_net::limits::PRICE_UNIT;
+use mk_names::limits::PRICE_UNIT;
 use mk_net::{Network, Question};
 use mk_semiring::{Held, SumProd};
 

@@ -1,12 +1,7 @@
 //! The most that the operator can lose.
 ghost use Rattle.std.specs.Prelude.{ℕ, ◌<◌, ◌≤◌, List, IsSomeAnd};
-ghost use Rattle.mk_net.specs.Bounds.{max_points_per_bit, number_limit};
-ghost use Rattle.mk_exact.specs.History.{Entry};
-ghost use Rattle.mk_states.specs.InitialWeight.{initial_total};
-ghost use Rattle.mk_exact.specs.Risk.{least_weight, CoversBound};
-ghost use Rattle.mk_tree.specs.Given.{GivenTree};
-ghost use Rattle.mk_engine.specs.Meaning.{Meaning};
-ghost use Rattle.mk_beliefs.specs.Meanings.{rows_of};
+ghost use Rattle.mk_answers.specs.Below.{max_points_per_bit, number_limit, Entry, initial_total};
+ghost use Rattle.mk_answers.specs.Below.{least_weight, CoversBound, GivenTree, Meaning, rows_of};
 ghost use Rattle.mk_answers.specs.Open.{IsOpen};
 ghost use Rattle.mk_answers.specs.Calls.{CanFindBound};
 

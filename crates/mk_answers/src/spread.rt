@@ -1,13 +1,7 @@
 //! The bounds by which an edit of a whole distribution is judged.
 ghost use Rattle.std.specs.Prelude.{◌≡◌, ◌≤◌, ℕ, List, length};
-ghost use Rattle.mk_net.specs.Bounds.{max_values};
-ghost use Rattle.mk_exact.specs.History.{Entry};
-ghost use Rattle.mk_spread.specs.Spreads.{asked_of};
-ghost use Rattle.mk_tree.specs.Given.{GivenTree};
-ghost use Rattle.mk_engine.specs.Meaning.{Meaning};
-ghost use Rattle.mk_beliefs.specs.Meanings.{weights_of, gains_of};
-ghost use Rattle.mk_assets.specs.Holdings.{Holding, Owns};
-ghost use Rattle.mk_quote.specs.Questions.{spread_in};
+ghost use Rattle.mk_answers.specs.Below.{max_values, Entry, asked_of, GivenTree, Meaning};
+ghost use Rattle.mk_answers.specs.Below.{weights_of, gains_of, Holding, Owns, spread_in};
 ghost use Rattle.mk_answers.specs.Open.{IsOpen, CanBeSpreadHere, holding_of};
 ghost use Rattle.mk_answers.specs.Calls.{CanBoundSpread};
 ghost use Rattle.mk_answers.specs.Results.{AreSpreadSidesFor};

@@ -1,13 +1,7 @@
 //! What is told of every value of a variable: its price, and what a user is sure of where it comes.
 ghost use Rattle.std.specs.Prelude.{◌≡◌, ◌≤◌, ℕ, List, length};
-ghost use Rattle.mk_net.specs.Bounds.{max_points_per_bit};
-ghost use Rattle.mk_exact.specs.History.{Entry, trades};
-ghost use Rattle.mk_exact.specs.Sound.{IsSound};
-ghost use Rattle.mk_tree.specs.Given.{GivenTree};
-ghost use Rattle.mk_engine.specs.Meaning.{Meaning};
-ghost use Rattle.mk_beliefs.specs.Meanings.{weights_of};
-ghost use Rattle.mk_assets.specs.Holdings.{Holding, Owns};
-ghost use Rattle.mk_quote.specs.Questions.{spread_in};
+ghost use Rattle.mk_answers.specs.Below.{max_points_per_bit, Entry, trades, IsSound, GivenTree};
+ghost use Rattle.mk_answers.specs.Below.{Meaning, weights_of, Holding, Owns, spread_in};
 ghost use Rattle.mk_answers.specs.Open.{IsOpen, CanBeSpreadHere, holding_of};
 ghost use Rattle.mk_answers.specs.Telling.{ArePricesFor, IsPositionFor, IsSureAt};
 ghost use Rattle.mk_answers.specs.Telling.{CanTellPrices, CanTellPosition};

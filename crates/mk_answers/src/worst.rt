@@ -1,18 +1,9 @@
 //! The least that a user owns, whatever comes.
 ghost use Rattle.std.specs.Prelude.{◌≡◌, ℕ, ◌≤◌, List, length, Some};
-ghost use Rattle.mk_net.specs.Bounds.{max_points_per_bit, sharpness};
-ghost use Rattle.mk_net.specs.Network.{Variable};
-ghost use Rattle.mk_exact.specs.Accepted.{Covers, IsMost};
-ghost use Rattle.mk_states.specs.Events.{always};
-ghost use Rattle.mk_exact.specs.Factors.{Fraction, HoldsNoTrade, IsAtLeastOne, factor_with};
-ghost use Rattle.mk_exact.specs.Factors.{least_gain};
-ghost use Rattle.mk_exact.specs.History.{Entry, trades};
-ghost use Rattle.mk_exact.specs.Weight.{IsSmall};
-ghost use Rattle.mk_tree.specs.Given.{GivenTree};
-ghost use Rattle.mk_enclose.specs.Enclosure.{Encloses};
-ghost use Rattle.mk_cash.specs.Factors.{HasPowersInRange};
-ghost use Rattle.mk_beliefs.specs.Meanings.{gains_of};
-ghost use Rattle.mk_assets.specs.Holdings.{Holding, Owns};
+ghost use Rattle.mk_answers.specs.Below.{max_points_per_bit, sharpness, Variable, Covers, IsMost};
+ghost use Rattle.mk_answers.specs.Below.{always, Fraction, HoldsNoTrade, IsAtLeastOne, factor_with};
+ghost use Rattle.mk_answers.specs.Below.{least_gain, Entry, trades, IsSmall, GivenTree, Encloses};
+ghost use Rattle.mk_answers.specs.Below.{HasPowersInRange, gains_of, Holding, Owns};
 ghost use Rattle.mk_answers.specs.Open.{IsOpen, IsFactorFor, holding_of};
 ghost use Rattle.mk_answers.specs.Calls.{CanFindWorst};
 ghost use Rattle.mk_answers.specs.Evidence.{IsLeastFactorOf};

@@ -1,8 +1,7 @@
 //! What a user's assets learn before they are asked.
 
 ghost use Rattle.std.specs.Prelude.{◌≡◌, ◌<◌, length};
-ghost use Rattle.mk_answers.specs.Open.{IsOpen, holding_of};
-ghost use Rattle.mk_record.specs.Members.{names_of, quotes_of};
+ghost use Rattle.mk_asking.specs.Below.{IsOpen, holding_of, names_of, quotes_of};
 ghost use Rattle.mk_asking.specs.Apart.{OwnApart};
 ghost use Rattle.mk_asking.specs.Keeping.{AreHeld};
 ghost use Rattle.mk_asking.specs.Quoting.{OwnsAt};

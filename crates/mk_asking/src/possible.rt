@@ -1,18 +1,10 @@
 //! What a command is refused for by what can come.
 
 ghost use Rattle.std.specs.Prelude.{◌≡◌, ◌<◌, ◌∷◌, [], List, length, slice_index, Some, true, not};
-ghost use Rattle.mk_net.specs.Firsts.{first_of};
-ghost use Rattle.mk_net.specs.Network.{Variable, sizes};
-ghost use Rattle.mk_states.specs.Events.{has, holds};
-ghost use Rattle.mk_exact.specs.History.{Entry};
-ghost use Rattle.mk_exact.specs.Weight.{cannot_come};
-ghost use Rattle.mk_tree.specs.Given.{GivenTree};
-ghost use Rattle.mk_engine.specs.Meaning.{Meaning};
-ghost use Rattle.mk_beliefs.specs.Meanings.{weights_of};
-ghost use Rattle.mk_quote.specs.Questions.{spread_in};
+ghost use Rattle.mk_asking.specs.Below.{first_of, Variable, sizes, has, holds, Entry, cannot_come};
+ghost use Rattle.mk_asking.specs.Below.{GivenTree, Meaning, weights_of, spread_in, IsOpen};
+ghost use Rattle.mk_asking.specs.Below.{CanBeResolved};
 ghost use Rattle.mk_rules.specs.Refusals as rules;
-ghost use Rattle.mk_answers.specs.Open.{IsOpen};
-ghost use Rattle.mk_record.specs.Refused.{CanBeResolved};
 ghost use Rattle.mk_asking.specs.Stopped.{IsAskedBy, IsConditionBy, IsDecidedBy, IsRefusedFor, MayStop, CanRefuse, CanRefuseCondition, CanRefuseSpread, CanAskOfPair};
 
 use mk_answers::first_impossible;

@@ -1,14 +1,9 @@
 //! The quotes by which edits are judged.
 
 ghost use Rattle.std.specs.Prelude.{◌≡◌, ◌<◌, ℕ, length, Some, Ok, slice_get, IfSome, IfNone, MatchResult};
-ghost use Rattle.mk_net.specs.Events.{pairs_asked};
-ghost use Rattle.mk_exact.specs.History.{revision};
-ghost use Rattle.mk_tree.specs.Given.{home};
-ghost use Rattle.mk_engine.specs.Meaning.{Meaning};
+ghost use Rattle.mk_asking.specs.Below.{pairs_asked, revision, home, Meaning, IsFor, CanBeAnswered};
+ghost use Rattle.mk_asking.specs.Below.{names_of, quotes_of};
 ghost use Rattle.mk_quote.specs.declared.quote.Quote.{Quote as Held};
-ghost use Rattle.mk_quote.specs.Quotes.{IsFor};
-ghost use Rattle.mk_answers.specs.Open.{CanBeAnswered};
-ghost use Rattle.mk_record.specs.Members.{names_of, quotes_of};
 ghost use Rattle.mk_asking.specs.Apart.{OwnApart};
 ghost use Rattle.mk_asking.specs.Keeping.{AreHeld, AreKeptQuotes};
 ghost use Rattle.mk_asking.specs.Quoting.{AreInUse, IsQuoteOf};

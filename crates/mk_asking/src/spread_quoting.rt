@@ -1,17 +1,10 @@
 //! The quotes by which spreads are judged.
 
 ghost use Rattle.std.specs.Prelude.{◌≡◌, ◌<◌, ◌≤◌, ℕ, length, Some, slice_get, slice_index, IfSome, IfNone, MatchResult};
-ghost use Rattle.mk_net.specs.Bounds.{max_values};
-ghost use Rattle.mk_net.specs.Events.{pairs_asked};
-ghost use Rattle.mk_net.specs.Network.{sizes};
-ghost use Rattle.mk_spread.specs.Spreads.{asked_of};
-ghost use Rattle.mk_tree.specs.Given.{home};
-ghost use Rattle.mk_engine.specs.Meaning.{Meaning};
+ghost use Rattle.mk_asking.specs.Below.{max_values, pairs_asked, sizes, asked_of, home, Meaning};
+ghost use Rattle.mk_asking.specs.Below.{spread_in, sides_of, IsSpreadFor, CanBeSpreadHere};
+ghost use Rattle.mk_asking.specs.Below.{names_of, quotes_of};
 ghost use Rattle.mk_quote.specs.declared.spread_quote.SpreadQuote.{SpreadQuote as Held};
-ghost use Rattle.mk_quote.specs.Questions.{spread_in};
-ghost use Rattle.mk_quote.specs.Spreads.{sides_of, IsSpreadFor};
-ghost use Rattle.mk_answers.specs.Open.{CanBeSpreadHere};
-ghost use Rattle.mk_record.specs.Members.{names_of, quotes_of};
 ghost use Rattle.mk_asking.specs.Apart.{OwnApart};
 ghost use Rattle.mk_asking.specs.Keeping.{AreHeld, AreKeptQuotes};
 ghost use Rattle.mk_asking.specs.Quoting.{AreInUse, IsSpreadQuoteOf, IsInside, IsStopped, IsTaken, IsTurnedDown};

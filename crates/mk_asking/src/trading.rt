@@ -1,18 +1,10 @@
 //! Trades.
 
 ghost use Rattle.std.specs.Prelude.{◌≡◌, ◌≤◌, ◌++◌, ◌∷◌, [], List, All, length};
-ghost use Rattle.mk_net.specs.Asked.{IsUnits};
-ghost use Rattle.mk_net.specs.Network.{Variable, IsNetwork};
-ghost use Rattle.mk_net.specs.Trades.{trade_ratio};
-ghost use Rattle.mk_exact.specs.History.{Trade};
-ghost use Rattle.mk_states.specs.OfNetwork.{IsQuestionOf};
-ghost use Rattle.mk_exact.specs.Sides.{ratio_in};
-ghost use Rattle.mk_spread.specs.Laws.{AreOfValues};
-ghost use Rattle.mk_spread.specs.Spreads.{spread_ratio};
-ghost use Rattle.mk_tree.specs.Given.{GivenTree};
-ghost use Rattle.mk_engine.specs.Meaning.{Meaning, RatioOf, with_factor};
-ghost use Rattle.mk_quote.specs.Questions.{spread_in};
-ghost use Rattle.mk_record.specs.Members.{names_of, quotes_of};
+ghost use Rattle.mk_asking.specs.Below.{IsUnits, Variable, IsNetwork, trade_ratio, Trade};
+ghost use Rattle.mk_asking.specs.Below.{IsQuestionOf, ratio_in, AreOfValues, spread_ratio};
+ghost use Rattle.mk_asking.specs.Below.{GivenTree, Meaning, RatioOf, with_factor, spread_in};
+ghost use Rattle.mk_asking.specs.Below.{names_of, quotes_of};
 ghost use Rattle.mk_asking.specs.Apart.{OwnApart};
 ghost use Rattle.mk_asking.specs.Keeping.{AreHeld, TakesAsMuch};
 ghost use Rattle.mk_asking.specs.Quoting.{CanBeMade};

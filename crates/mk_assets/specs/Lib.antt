@@ -1,2 +1,3 @@
+pub mod Below
 pub mod Holdings
 pub mod inner

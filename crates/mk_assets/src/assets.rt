@@ -2,15 +2,9 @@
 
 ghost use Rattle.std.specs.Prelude.{◌≡◌, ℕ, ◌+◌, ◌-◌, ◌≤◌, List, [], ◌∷◌, length, slice_index, true};
 ghost use Rattle.std.specs.Prelude.{is_some, Some, IfOk, IfSome};
-ghost use Rattle.mk_net.specs.Network.{sizes};
-ghost use Rattle.mk_net.specs.Asked.{ratio_pairs};
-ghost use Rattle.mk_net.specs.Bounds.{max_values};
-ghost use Rattle.mk_net.specs.Trades.{trade_ratio};
-ghost use Rattle.mk_enclose.specs.Enclosure.{HasGrade};
-ghost use Rattle.mk_semiring.specs.Held.{HasHeldGrade};
-ghost use Rattle.mk_tree.specs.Given.{GivenTree, home};
-ghost use Rattle.mk_engine.specs.Meaning.{exact_belief, max_grade};
-ghost use Rattle.mk_engine.specs.Cases.{exact_others};
+ghost use Rattle.mk_assets.specs.Below.{sizes, ratio_pairs, max_values, trade_ratio, HasGrade};
+ghost use Rattle.mk_assets.specs.Below.{HasHeldGrade, GivenTree, home, exact_belief, max_grade};
+ghost use Rattle.mk_assets.specs.Below.{exact_others};
 ghost use Rattle.mk_assets.specs.Holdings.{Holding, Holds, Owns, IsPlanned, CanTrade};
 ghost use Rattle.mk_assets.specs.Holdings.{CanDeposit, CanWithdraw, CanLearn, CanFindLeast};
 ghost use Rattle.mk_assets.specs.Holdings.{CanFindLeastOfOthers, IsTakenAt, IsLeastFactor};

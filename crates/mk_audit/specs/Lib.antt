@@ -1,3 +1,4 @@
+pub mod Below
 pub mod Verdicts
 pub mod AuditOutcome
 pub mod Laws

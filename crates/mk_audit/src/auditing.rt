@@ -3,14 +3,8 @@
 
 ghost use Rattle.std.specs.Prelude.{◌≡◌, ℕ, ◌+◌, ◌≤◌, List, length, Some};
 ghost use Rattle.std.specs.Prelude.{IfNone, IfSome, MatchOption};
-ghost use Rattle.mk_io.specs.Stream.{max_stream_lines};
-ghost use Rattle.mk_io.specs.Cutting.{fresh, GoesOn};
-ghost use Rattle.mk_exact.specs.Market.{Market};
-ghost use Rattle.mk_tree.specs.Checked.{IsTreeOf};
-ghost use Rattle.mk_file.specs.MarketOf.{market_of};
-ghost use Rattle.mk_rules.specs.Standings.{IsMarket};
-ghost use Rattle.mk_rules.specs.Transcript.{opening};
-ghost use Rattle.mk_market.specs.Trading.{IsAt};
+ghost use Rattle.mk_audit.specs.Below.{max_stream_lines, fresh, GoesOn, Market, IsTreeOf};
+ghost use Rattle.mk_audit.specs.Below.{market_of, IsMarket, opening, IsAt};
 ghost use Rattle.mk_audit.specs.Verdicts.{AuditEnds, HasAuditCause};
 ghost use Rattle.mk_audit.specs.inner.Progress.{StandsAt, IsSoFar};
 

@@ -2,15 +2,9 @@
 
 ghost use Rattle.std.specs.Prelude.{◌≡◌, ◌+◌, ◌^◌, ◌<◌, ◌≤◌, ◌++◌, true, false, length};
 ghost use Rattle.std.specs.Prelude.{None, IfNone};
-ghost use Rattle.mk_io.specs.Stream.{StreamLine, text, is_not_blank, max_stream_lines};
-ghost use Rattle.mk_exact.specs.Market.{Market};
-ghost use Rattle.mk_command.specs.Commands.{IsCommand, command_of};
-ghost use Rattle.mk_reply.specs.Replies.{IsReply};
-ghost use Rattle.mk_rules.specs.Transcript.{OfCommand};
-ghost use Rattle.mk_market.specs.Trading.{IsAt};
-ghost use Rattle.mk_session.specs.Transcript.{Asks};
-ghost use Rattle.mk_session.specs.Outcome.{IsFrontOf};
-ghost use Rattle.mk_known.specs.Known.{IsKnown};
+ghost use Rattle.mk_audit.specs.Below.{StreamLine, text, is_not_blank, max_stream_lines, Market};
+ghost use Rattle.mk_audit.specs.Below.{IsCommand, command_of, IsReply, OfCommand, IsAt, Asks};
+ghost use Rattle.mk_audit.specs.Below.{IsFrontOf, IsKnown};
 ghost use Rattle.mk_audit.specs.inner.Progress.{StandsAt, standing_at, left_of};
 ghost use Rattle.mk_audit.specs.inner.Progress.{HoldsBytes, HoldsReply, GoesOnBy, Holds};
 ghost use Rattle.mk_audit.specs.inner.Progress.{EndsBehind};

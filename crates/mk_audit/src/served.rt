@@ -1,13 +1,9 @@
 //! The audit of a transcript in a file, and the line that it writes.
 
 ghost use Rattle.std.specs.Prelude.{◌≡◌, ◌≢◌, ◌⊎◌, ℕ, List, Some, Ok, Err, IsOk};
-ghost use Rattle.mk_io.specs.Outside.{Rose};
-ghost use Rattle.mk_file.specs.File.{file_of};
+ghost use Rattle.mk_audit.specs.Below.{Rose, file_of, market_of, IsTreeOf, AreWithin, Adds};
+ghost use Rattle.mk_audit.specs.Below.{IsTurnedAway, HasCauses};
 ghost use Rattle.mk_file.specs.declared.fault.FileFault.{FileFault};
-ghost use Rattle.mk_file.specs.MarketOf.{market_of};
-ghost use Rattle.mk_tree.specs.Checked.{IsTreeOf};
-ghost use Rattle.mk_session.specs.Complete.{AreWithin};
-ghost use Rattle.mk_session.specs.Outcome.{Adds, IsTurnedAway, HasCauses};
 ghost use Rattle.mk_audit.specs.AuditOutcome.{AuditOutcome, AuditsTo, EndsAudit};
 ghost use Rattle.mk_audit.specs.AuditOutcome.{verdict_line, long_line};
 ghost use Rattle.mk_audit.specs.inner.Telling.{Says};

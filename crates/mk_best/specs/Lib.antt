@@ -1,3 +1,4 @@
+pub mod Below
 pub mod Chances
 pub mod BestStates
 pub mod inner

@@ -1,13 +1,8 @@
 //! Best states.
 ghost use Rattle.std.specs.Prelude.{◌≡◌, ℕ, ◌≤◌, List, length, IfOk};
-ghost use Rattle.mk_net.specs.Bounds.{max_market_trades};
-ghost use Rattle.mk_net.specs.Network.{Variable, IsNetwork};
-ghost use Rattle.mk_exact.specs.History.{Entry as Change, trades};
-ghost use Rattle.mk_exact.specs.Weight.{IsSmall};
-ghost use Rattle.mk_tree.specs.Checked.{IsTreeOf};
-ghost use Rattle.mk_engine.specs.Meaning.{ArePairsOf};
-ghost use Rattle.mk_beliefs.specs.Meanings.{weights_of};
-ghost use Rattle.mk_replay.specs.Placed.{IsPlaced};
+ghost use Rattle.mk_best.specs.Below.{max_market_trades, Variable, IsNetwork, trades, IsSmall};
+ghost use Rattle.mk_best.specs.Below.{IsTreeOf, ArePairsOf, weights_of, IsPlaced};
+ghost use Rattle.mk_exact.specs.History.{Entry as Change};
 ghost use Rattle.mk_best.specs.BestStates.{IsBestFound};
 ghost use Rattle.mk_best.specs.inner.Engines.{learned};
 ghost use Rattle.mk_best.specs.inner.Picks.{CanSearchBoth, AreEnds, HasEnds, IsCertificate};
@@ -20,7 +15,7 @@ use crate::known::know_all;
 use crate::search::best_pairs;
 use mk_enclose::Enclosure;
 use mk_engine::Engine;
-use mk_net::limits::PRICE_UNIT;
+use mk_names::limits::PRICE_UNIT;
 use mk_net::{Event, Network, NoMemory, Pair};
 use mk_record::Journal;
 use mk_semiring::{Held, MaxProd, Semiring, SumProd};

@@ -1,16 +1,10 @@
 //! Chances.
 ghost use Rattle.std.specs.Prelude.{◌≡◌, ℕ, ◌^◌, ◌≤◌, List, [], length, IfOk};
-ghost use Rattle.mk_net.specs.Bounds.{max_market_trades, sharpness};
-ghost use Rattle.mk_net.specs.Network.{Variable};
-ghost use Rattle.mk_exact.specs.History.{Entry as Change, trades};
-ghost use Rattle.mk_exact.specs.Prices.{CoversPrice};
-ghost use Rattle.mk_exact.specs.Weight.{IsSmall};
-ghost use Rattle.mk_tree.specs.Checked.{IsTreeOf};
-ghost use Rattle.mk_engine.specs.Meaning.{ArePairsOf};
-ghost use Rattle.mk_replay.specs.Placed.{IsPlaced};
+ghost use Rattle.mk_best.specs.Below.{max_market_trades, sharpness, Variable, trades, CoversPrice};
+ghost use Rattle.mk_best.specs.Below.{IsSmall, IsTreeOf, ArePairsOf, IsPlaced, weights_of};
+ghost use Rattle.mk_exact.specs.History.{Entry as Change};
 ghost use Rattle.mk_best.specs.Chances.{IsChance};
 ghost use Rattle.mk_best.specs.inner.Engines.{CanAsk, IsLeftFor, ArePartAndWhole, HasPartAndWhole};
-ghost use Rattle.mk_beliefs.specs.Meanings.{weights_of};
 
 use crate::found::Chance;
 use crate::history::engine_after;
@@ -18,7 +12,7 @@ use crate::known::know_all;
 use crate::sure::are_sure;
 use mk_enclose::Enclosure;
 use mk_engine::Engine;
-use mk_net::limits::PRICE_UNIT;
+use mk_names::limits::PRICE_UNIT;
 use mk_net::{Event, Network, NoMemory, Pair};
 use mk_record::Journal;
 use mk_semiring::{Held, SumProd};

@@ -1,9 +1,6 @@
 //! The engine of a history.
 ghost use Rattle.std.specs.Prelude.{IfOk};
-ghost use Rattle.mk_net.specs.Network.{IsNetwork};
-ghost use Rattle.mk_tree.specs.Checked.{IsTreeOf};
-ghost use Rattle.mk_beliefs.specs.Meanings.{weights_of};
-ghost use Rattle.mk_replay.specs.Placed.{IsPlaced};
+ghost use Rattle.mk_best.specs.Below.{IsNetwork, IsTreeOf, weights_of, IsPlaced};
 
 use mk_engine::Engine;
 use mk_net::{Network, NoMemory};

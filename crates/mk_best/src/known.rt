@@ -1,8 +1,6 @@
 //! Pairs that become known.
 ghost use Rattle.std.specs.Prelude.{List};
-ghost use Rattle.mk_net.specs.Network.{Variable};
-ghost use Rattle.mk_exact.specs.History.{Entry};
-ghost use Rattle.mk_beliefs.specs.Meanings.{weights_of};
+ghost use Rattle.mk_best.specs.Below.{Variable, Entry, weights_of};
 ghost use Rattle.mk_best.specs.inner.Engines.{CanLearn, learned};
 
 use mk_engine::Engine;

@@ -1,14 +1,8 @@
 //! The value of a variable with which a best state goes on.
 ghost use Rattle.std.specs.Prelude.{◌≡◌, ◌<◌, ◌≤◌, ◌↔◌, List, [], ◌∷◌, length, true};
 ghost use Rattle.std.specs.Prelude.{slice_index};
-ghost use Rattle.mk_net.specs.Bounds.{max_market_trades};
-ghost use Rattle.mk_net.specs.Network.{Variable, IsNetwork, sizes};
-ghost use Rattle.mk_states.specs.Events.{holds};
-ghost use Rattle.mk_exact.specs.History.{Entry, trades};
-ghost use Rattle.mk_exact.specs.Weight.{IsSmall};
-ghost use Rattle.mk_engine.specs.Meaning.{Meaning};
-ghost use Rattle.mk_beliefs.specs.Meanings.{weights_of};
-ghost use Rattle.mk_answers.specs.inner.Found.{IsBeliefIn};
+ghost use Rattle.mk_best.specs.Below.{max_market_trades, Variable, IsNetwork, sizes, holds, Entry};
+ghost use Rattle.mk_best.specs.Below.{trades, IsSmall, Meaning, weights_of, IsBeliefIn};
 ghost use Rattle.mk_best.specs.BestStates.{greatest};
 ghost use Rattle.mk_best.specs.inner.Picks.{low_of, CanAskIn, CanSearch, IsPick};
 

@@ -1,9 +1,6 @@
 //! The search for a best state.
 ghost use Rattle.std.specs.Prelude.{◌≡◌, ℕ, ◌≤◌, List, length, IfOk};
-ghost use Rattle.mk_net.specs.Bounds.{max_market_trades};
-ghost use Rattle.mk_net.specs.Network.{Variable};
-ghost use Rattle.mk_exact.specs.History.{Entry, trades};
-ghost use Rattle.mk_beliefs.specs.Meanings.{weights_of};
+ghost use Rattle.mk_best.specs.Below.{max_market_trades, Variable, Entry, trades, weights_of};
 ghost use Rattle.mk_best.specs.inner.Engines.{learned};
 ghost use Rattle.mk_best.specs.inner.Picks.{CanSearch, AreFound};
 

@@ -1,11 +1,7 @@
 //! Pairs that nothing but which can come.
 ghost use Rattle.std.specs.Prelude.{◌≡◌, ◌≤◌, List, true, false, not, ◌↔◌};
-ghost use Rattle.mk_net.specs.Network.{Variable};
-ghost use Rattle.mk_states.specs.Events.{has, holds, always};
-ghost use Rattle.mk_exact.specs.History.{Entry};
-ghost use Rattle.mk_exact.specs.Weight.{total};
-ghost use Rattle.mk_engine.specs.Meaning.{Meaning};
-ghost use Rattle.mk_beliefs.specs.Meanings.{weights_of};
+ghost use Rattle.mk_best.specs.Below.{Variable, has, holds, always, Entry, total, Meaning};
+ghost use Rattle.mk_best.specs.Below.{weights_of};
 ghost use Rattle.mk_best.specs.inner.Engines.{CanAsk, CanAskPair};
 
 use mk_engine::{Engine, belief_of_others};

@@ -1,3 +1,4 @@
+pub mod Below
 pub mod Factors
 pub mod Accounts
 pub mod Dues

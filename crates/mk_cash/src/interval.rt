@@ -1,13 +1,10 @@
 //! The points that a factor is worth.
 ghost use Rattle.std.specs.Prelude.{◌≡◌, ℕ, ◌+◌, ◌-◌, ◌*◌, ◌^◌, ◌<◌, ◌≤◌};
-ghost use Rattle.mk_net.specs.Bounds.{max_points_per_bit, number_limit, sharpness, grade_room};
-ghost use Rattle.mk_exact.specs.Factors.{Fraction, IsAtLeastOne};
-ghost use Rattle.mk_exact.specs.Cash.{CoversCash};
-ghost use Rattle.mk_scaled.specs.ByRule.{rounded_down, rounded_up, power_by, whole_log};
-ghost use Rattle.mk_scaled.specs.Near.{IsNear};
-ghost use Rattle.mk_scaled.specs.Range.{IsInRange};
-ghost use Rattle.mk_enclose.specs.Enclosure.{lower_of, upper_of, Encloses, IsExact, IsGradedWithin};
-ghost use Rattle.mk_enclose.specs.Factor.{paid_in, taken_out, StandsFor};
+ghost use Rattle.mk_cash.specs.Below.{max_points_per_bit, number_limit, sharpness, grade_room};
+ghost use Rattle.mk_cash.specs.Below.{Fraction, IsAtLeastOne, CoversCash, rounded_down, rounded_up};
+ghost use Rattle.mk_cash.specs.Below.{power_by, whole_log, IsNear, IsInRange, lower_of, upper_of};
+ghost use Rattle.mk_cash.specs.Below.{Encloses, IsExact, IsGradedWithin, paid_in, taken_out};
+ghost use Rattle.mk_cash.specs.Below.{StandsFor};
 ghost use Rattle.mk_cash.specs.Factors.{HasPowersInRange};
 ghost use Rattle.mk_cash.specs.inner.Quotient.{IsLessNear};
 

@@ -1,13 +1,12 @@
 //! The most that the operator can lose.
 ghost use Rattle.std.specs.Prelude.{◌≡◌, ℕ, ◌+◌, ◌*◌, ◌^◌, ◌<◌, ◌≤◌};
-ghost use Rattle.mk_net.specs.Bounds.{max_variables, max_points_per_bit, number_limit, million};
-ghost use Rattle.mk_exact.specs.Risk.{CoversBound};
-ghost use Rattle.mk_scaled.specs.Near.{IsNear};
-ghost use Rattle.mk_scaled.specs.Range.{two_to};
-ghost use Rattle.mk_enclose.specs.Enclosure.{upper_of, Encloses, IsGradedWithin, IsExact};
+ghost use Rattle.mk_cash.specs.Below.{max_variables, max_points_per_bit, number_limit, million};
+ghost use Rattle.mk_cash.specs.Below.{CoversBound, IsNear, two_to, upper_of, Encloses};
+ghost use Rattle.mk_cash.specs.Below.{IsGradedWithin, IsExact};
 ghost use Rattle.mk_cash.specs.inner.Quotient.{IsLessNear};
 
 use mk_enclose::Enclosure;
+use mk_names::limits::MILLION;
 use mk_scaled::Scaled;
 
 /// Bounds on the most that the operator can lose, in points: `points_per_bit` times the logarithm to base 2 of
@@ -41,9 +40,9 @@ fn initial_total(variables: u32) -> Enclosure
     ensures upper { upper_of result ≤ two_to 6000 }
 {
     if variables <= 3 {
-        return Enclosure::exact(1_000_000u64.pow(variables));
+        return Enclosure::exact((MILLION as u64).pow(variables));
     }
-    let share = Scaled::of_whole(1_000_000);
+    let share = Scaled::of_whole(MILLION as u64);
     Enclosure::between(share.pow_down(variables), share.pow_up(variables))
 }
 

@@ -1,10 +1,8 @@
 //! Writing a command.
 
 ghost use Rattle.std.specs.Prelude.{◌≡◌, ◌≤◌, ◌<◌, ◌+◌, ◌^◌, ◌++◌, length, codes, decimal, IfSome};
-ghost use Rattle.arrayvec.specs.ArrayString.{array_string_len};
-ghost use Rattle.mk_text.specs.Numbers.{IsShort};
-ghost use Rattle.mk_text.specs.Joined.{◌&◌, spaced, AreSeveral};
-ghost use Rattle.mk_text.specs.Texts.{condition_text, question_text};
+ghost use Rattle.mk_command.specs.Below.{array_string_len, IsShort, ◌&◌, spaced, AreSeveral};
+ghost use Rattle.mk_command.specs.Below.{condition_text, question_text};
 ghost use Rattle.mk_command.specs.Commands.{HasShortNumbers, command_text, at_text};
 ghost use Rattle.mk_command.specs.inner.Kinds.{IsOfValues};
 

@@ -1,3 +1,4 @@
+pub mod Below
 pub mod Recovery
 pub mod Resuming
 pub mod Suiting

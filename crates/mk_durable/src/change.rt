@@ -1,12 +1,8 @@
 //! The record of one change, and how it is kept.
 
 ghost use Rattle.std.specs.Prelude.{◌≡◌, ◌+◌, ◌<◌, ◌≤◌, ◌^◌, ℕ, List, [], ◌∷◌, ◌++◌, length, OnOk};
-ghost use Rattle.mk_command.specs.Commands.{HasShortNumbers, command_text};
-ghost use Rattle.mk_reply.specs.Replies.{reply_text};
-ghost use Rattle.mk_disk.specs.Disk.{HasCause};
-ghost use Rattle.mk_journal.specs.Keepers.{IsHeld, IsReady};
-ghost use Rattle.mk_journal.specs.Market.{IsFront};
-ghost use Rattle.mk_journal.specs.Moments.{LeavesOnly};
+ghost use Rattle.mk_durable.specs.Below.{HasShortNumbers, command_text, reply_text, HasCause};
+ghost use Rattle.mk_durable.specs.Below.{IsHeld, IsReady, IsFront, LeavesOnly};
 
 use arrayvec::{ArrayString, ArrayVec};
 use mk_command::{Command, print_command};

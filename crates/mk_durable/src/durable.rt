@@ -3,22 +3,13 @@
 ghost use Rattle.std.specs.Prelude.{◌≡◌, ◌≢◌, ◌⊎◌, ◌↔◌, ◌+◌, ◌<◌, ◌≤◌, ◌^◌, ℕ, List, [], ◌++◌};
 ghost use Rattle.std.specs.Prelude.{length, Some, Err, true, false, is_err, IsTrue};
 ghost use Rattle.std.specs.Prelude.{IfErr, IfOk, OnOk, OnErr};
-ghost use Rattle.mk_command.specs.Commands.{HasShortNumbers};
-ghost use Rattle.mk_disk.specs.Disk.{HasCause, Rose};
-ghost use Rattle.mk_exact.specs.History.{revision};
-ghost use Rattle.mk_rules.specs.Standings.{IsMarket};
-ghost use Rattle.mk_tree.specs.Checked.{IsTreeOf};
-ghost use Rattle.mk_file.specs.MarketOf.{market_of};
-ghost use Rattle.mk_file.specs.File.{max_file_bytes};
-ghost use Rattle.mk_market.specs.Trading.{IsAt};
-ghost use Rattle.mk_journal.specs.Store.{IsUnstarted, StandsFor};
-ghost use Rattle.mk_journal.specs.Keepers.{IsHeld, IsReady};
-ghost use Rattle.mk_journal.specs.Market.{IsFront};
-ghost use Rattle.mk_journal.specs.Moments.{LeavesOnly};
+ghost use Rattle.mk_durable.specs.Below.{HasShortNumbers, HasCause, revision, IsMarket, IsTreeOf};
+ghost use Rattle.mk_durable.specs.Below.{market_of, max_file_bytes, IsAt, IsUnstarted, StandsFor};
+ghost use Rattle.mk_durable.specs.Below.{IsHeld, IsReady, IsFront, LeavesOnly, SuitsNext};
+ghost use Rattle.mk_disk.specs.Disk.{Rose};
 ghost use Rattle.mk_durable.specs.Recovery.{unquoted};
 ghost use Rattle.mk_durable.specs.Resuming.{IsCounted, IsRefused, IfForeign, IsResumed};
 ghost use Rattle.mk_durable.specs.Suiting.{SuitsAll};
-ghost use Rattle.mk_market.specs.Suited.{SuitsNext};
 ghost use Rattle.mk_durable.specs.Applying.{records_made, IsApplied};
 ghost use Rattle.mk_durable.specs.declared.durable.DurableFault.TheVariants.{Disk, Closed};
 

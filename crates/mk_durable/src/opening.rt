@@ -2,12 +2,8 @@
 
 ghost use Rattle.std.specs.Prelude.{◌≡◌, ◌⊎◌, ◌+◌, ◌^◌, ◌<◌, ◌≤◌, ℕ, List, [], length};
 ghost use Rattle.std.specs.Prelude.{Some, IsTrue, IfErr, IfOk, OnOk};
-ghost use Rattle.mk_journal.specs.Store.{begun, IsUnstarted, StandsFor};
-ghost use Rattle.mk_journal.specs.Moments.{LeavesOnly};
-ghost use Rattle.mk_journal.specs.Keepers.{IsReady};
-ghost use Rattle.mk_exact.specs.History.{additions, revision};
-ghost use Rattle.mk_rules.specs.Transcript.{opening};
-ghost use Rattle.mk_market.specs.Trading.{IsAt};
+ghost use Rattle.mk_durable.specs.Below.{begun, IsUnstarted, StandsFor, LeavesOnly, IsReady};
+ghost use Rattle.mk_durable.specs.Below.{additions, revision, opening, IsAt};
 ghost use Rattle.mk_durable.specs.Recovery.{unquoted};
 ghost use Rattle.mk_durable.specs.Resuming.{IsCounted, IsRefused, IfForeign, IsResumed};
 ghost use Rattle.mk_durable.specs.Suiting.{SuitsAll};

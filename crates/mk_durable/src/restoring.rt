@@ -1,9 +1,8 @@
 //! Taking back the records of a store, one after another.
 
 ghost use Rattle.std.specs.Prelude.{◌≡◌, IfErr, OnOk};
+ghost use Rattle.mk_durable.specs.Below.{IsAt, contents};
 ghost use Rattle.mk_exact.specs.Market.{Market as FileMarket};
-ghost use Rattle.mk_market.specs.Trading.{IsAt};
-ghost use Rattle.mk_journal.specs.Opening.{contents};
 ghost use Rattle.mk_durable.specs.Recovery.{AreTakenBack, unquoted};
 ghost use Rattle.mk_durable.specs.Resuming.{fault_at, IsRecordFault};
 ghost use Rattle.mk_durable.specs.Suiting.{SuitsAll};

@@ -2,24 +2,16 @@
 
 ghost use Rattle.std.specs.Prelude.{◌≡◌, ◌≢◌, ◌⊎◌, ◌≤◌, ℕ, List, Some, Ok, Err, IsOk, IfOk};
 ghost use Rattle.std.specs.Prelude.{IfErr, OnOk, IsTrue, length};
-ghost use Rattle.mk_io.specs.Outside.{Rose};
-ghost use Rattle.mk_file.specs.File.{file_of};
+ghost use Rattle.mk_durable.specs.Below.{Rose, file_of, market_of, IsTreeOf, Market, AreWithin};
+ghost use Rattle.mk_durable.specs.Below.{IsReadWithin, Adds, Refuses, IsTurnedAway, HasCauses};
+ghost use Rattle.mk_durable.specs.Below.{HasKeepCauses, IsMarket, opening, LeavesOnly};
 ghost use Rattle.mk_file.specs.declared.fault.FileFault.{FileFault};
-ghost use Rattle.mk_file.specs.MarketOf.{market_of};
-ghost use Rattle.mk_tree.specs.Checked.{IsTreeOf};
-ghost use Rattle.mk_exact.specs.Market.{Market};
-ghost use Rattle.mk_session.specs.Complete.{AreWithin};
-ghost use Rattle.mk_session.specs.Opening.{IsReadWithin};
-ghost use Rattle.mk_session.specs.Outcome.{Adds, Refuses, IsTurnedAway, HasCauses, HasKeepCauses};
 ghost use Rattle.mk_durable.specs.Recovery.{IsHonest};
 ghost use Rattle.mk_durable.specs.KeepOutcome.{KeepOutcome, OpenedKeep, KeepsChanges};
 ghost use Rattle.mk_durable.specs.KeepOutcome.{store_fault_line, GivesSound};
 ghost use Rattle.mk_durable.specs.KeepOutcome.{IsSoundStore, IsHonestStore, AreHonest};
 ghost use Rattle.mk_durable.specs.Resuming.{IsCounted};
 ghost use Rattle.mk_durable.specs.inner.Preparing.{IsPlace, AreHonestTo, Stops};
-ghost use Rattle.mk_rules.specs.Standings.{IsMarket};
-ghost use Rattle.mk_rules.specs.Transcript.{opening};
-ghost use Rattle.mk_journal.specs.Moments.{LeavesOnly};
 
 use crate::fault::{ResumeFault, StoreFault};
 use crate::opening::resume;

@@ -2,13 +2,8 @@
 
 ghost use Rattle.std.specs.Prelude.{◌≡◌, ◌<◌, ℕ, List, [], ◌∷◌, Some, IfOk};
 ghost use Rattle.mk_net.specs.declared.words.Pair.{Pair};
-ghost use Rattle.mk_net.specs.Network.{Variable};
-ghost use Rattle.mk_net.specs.Asked.{ratio_pairs};
-ghost use Rattle.mk_net.specs.Bounds.{number_limit};
-ghost use Rattle.mk_net.specs.Trades.{trade_ratio};
-ghost use Rattle.mk_tree.specs.Given.{GivenTree, home};
-ghost use Rattle.mk_tree.specs.Checked.{IsTreeOf};
-ghost use Rattle.mk_tree.specs.Held.{IsHeldAt};
+ghost use Rattle.mk_engine.specs.Below.{Variable, ratio_pairs, number_limit, trade_ratio};
+ghost use Rattle.mk_engine.specs.Below.{GivenTree, home, IsTreeOf, IsHeldAt};
 ghost use Rattle.mk_engine.specs.Meaning.{Meaning, RowsOf, SupportOf, RatioOf, opening, with_factor, with_known, whole_sum};
 ghost use Rattle.mk_engine.specs.Apart.{IsApart, without_ratios};
 ghost use Rattle.mk_engine.specs.Beliefs.{CanWeigh, CanMultiply, CanKnow, CanBelieve, IsBelief};

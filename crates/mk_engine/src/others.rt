@@ -1,8 +1,7 @@
 //! Beliefs in the other values of a question's variable.
 
 ghost use Rattle.std.specs.Prelude.{◌≡◌, ◌+◌, ◌-◌, slice_index};
-ghost use Rattle.mk_net.specs.Bounds.{max_values};
-ghost use Rattle.mk_net.specs.Network.{sizes};
+ghost use Rattle.mk_engine.specs.Below.{max_values, sizes};
 ghost use Rattle.mk_engine.specs.Meaning.{Meaning};
 ghost use Rattle.mk_engine.specs.Cases.{pairs_with, CanAskOthers, IsOthersBelief};
 

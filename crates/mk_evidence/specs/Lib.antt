@@ -1,3 +1,4 @@
+pub mod Below
 pub mod Evidence
 pub mod Grades
 pub mod inner

@@ -5,12 +5,8 @@
 
 ghost use Rattle.std.specs.Prelude.{◌≡◌, ◌<◌, ◌≤◌, length};
 ghost use Rattle.mk_command.specs.declared.command.Command.TheVariants as command;
-ghost use Rattle.mk_exact.specs.History.{users};
-ghost use Rattle.mk_states.specs.Events.{always};
-ghost use Rattle.mk_file.specs.MarketOf.{market_of};
-ghost use Rattle.mk_quote.specs.Questions.{spread_in};
-ghost use Rattle.mk_answers.specs.Evidence.{IsLeastFactorOf, AreSureFactors};
-ghost use Rattle.mk_market.specs.Trading.{IsOnlyAsked};
+ghost use Rattle.mk_evidence.specs.Below.{users, always, market_of, spread_in, IsLeastFactorOf};
+ghost use Rattle.mk_evidence.specs.Below.{AreSureFactors, IsOnlyAsked};
 ghost use Rattle.mk_evidence.specs.Grades.{all_cells, evidence_grade};
 ghost use Rattle.mk_evidence.specs.inner.Finding.{AreAsked, CanAskEach};
 ghost use Rattle.mk_evidence.specs.Evidence.{IsAskedFor, IsPriceEvidence, ArePricesEvidence};

@@ -1,19 +1,13 @@
 //! Bounds of both sides of a question, by which an auditor judges its limits and its edits.
 
 ghost use Rattle.std.specs.Prelude.{◌≡◌, IfOk, MatchResult};
-ghost use Rattle.mk_net.specs.Firsts.{first_of};
+ghost use Rattle.mk_evidence.specs.Below.{first_of, Meaning, refusals_by_record, names_of};
+ghost use Rattle.mk_evidence.specs.Below.{refusal_in, IsOnlyAsked, IsDecidedBy, market_of};
 ghost use Rattle.mk_command.specs.declared.command.Command.TheVariants as command;
 ghost use Rattle.mk_exact.specs.History.{users as users_of};
-ghost use Rattle.mk_engine.specs.Meaning.{Meaning};
-ghost use Rattle.mk_rules.specs.Refusals.{refusals_by_record};
-ghost use Rattle.mk_record.specs.Members.{names_of};
-ghost use Rattle.mk_record.specs.Refused.{refusal_in};
-ghost use Rattle.mk_market.specs.Trading.{IsOnlyAsked};
 ghost use Rattle.mk_evidence.specs.inner.Finding.{AreAsked, CanFindBoth, AreBothFound};
 ghost use Rattle.mk_evidence.specs.inner.Finding.{IsRequestFor, question_command, opened};
-ghost use Rattle.mk_asking.specs.Stopped.{IsDecidedBy};
 ghost use Rattle.mk_evidence.specs.Grades.{evidence_grade};
-ghost use Rattle.mk_file.specs.MarketOf.{market_of};
 ghost use Rattle.mk_evidence.specs.Evidence.{IsAskedFor, IsEditEvidence};
 
 use mk_answers::{Sides, bounds_of};

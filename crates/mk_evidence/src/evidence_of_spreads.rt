@@ -1,20 +1,14 @@
 //! Bounds of each value of a variable, by which an auditor judges its bounds and its spreads.
 
 ghost use Rattle.std.specs.Prelude.{◌≡◌, ℕ, List, length, slice_index, ⊤, MatchResult};
-ghost use Rattle.mk_net.specs.Network.{Variable, sizes};
+ghost use Rattle.mk_evidence.specs.Below.{Variable, sizes, Meaning, spread_in, GivenTree};
+ghost use Rattle.mk_evidence.specs.Below.{CanBeSpreadHere, IsOnlyAsked, IsSpreadQuoteOf};
+ghost use Rattle.mk_evidence.specs.Below.{CanRefuseSpread, market_of};
 ghost use Rattle.mk_command.specs.declared.command.Command.TheVariants as command;
-ghost use Rattle.mk_engine.specs.Meaning.{Meaning};
-ghost use Rattle.mk_quote.specs.Questions.{spread_in};
-ghost use Rattle.mk_tree.specs.Given.{GivenTree};
-ghost use Rattle.mk_answers.specs.Open.{CanBeSpreadHere};
-ghost use Rattle.mk_market.specs.Trading.{IsOnlyAsked};
 ghost use Rattle.mk_evidence.specs.inner.Finding.{CanFindEach, AreEachFound, ArePlacedBounds};
 ghost use Rattle.mk_evidence.specs.inner.Finding.{AreAsked, IsDecidedAnew, IsStoppedAnew};
 ghost use Rattle.mk_evidence.specs.inner.Finding.{IsTold, opened_each};
-ghost use Rattle.mk_asking.specs.Quoting.{IsSpreadQuoteOf};
-ghost use Rattle.mk_asking.specs.Stopped.{CanRefuseSpread};
 ghost use Rattle.mk_evidence.specs.Grades.{evidence_grade};
-ghost use Rattle.mk_file.specs.MarketOf.{market_of};
 ghost use Rattle.mk_evidence.specs.Evidence.{IsAskedFor, IsSpreadEvidence};
 
 use arrayvec::ArrayVec;

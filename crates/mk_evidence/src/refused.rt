@@ -2,9 +2,7 @@
 
 ghost use Rattle.std.specs.Prelude.{◌≡◌, IfOk};
 ghost use Rattle.mk_command.specs.declared.command.Command.TheVariants as command;
-ghost use Rattle.mk_exact.specs.Existing.{HasOutcome};
-ghost use Rattle.mk_rules.specs.Refusals.{first_refusal};
-ghost use Rattle.mk_record.specs.Refused.{refusal_in};
+ghost use Rattle.mk_evidence.specs.Below.{HasOutcome, first_refusal, refusal_in};
 
 use mk_addition::AddText;
 use mk_admission::refuse_add;

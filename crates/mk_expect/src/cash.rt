@@ -1,10 +1,7 @@
 //! The cash that a user may expect to have.
 ghost use Rattle.std.specs.Prelude.{ℕ, ◌^◌, ◌≤◌, List, IfOk};
-ghost use Rattle.mk_net.specs.Bounds.{max_points_per_bit};
-ghost use Rattle.mk_net.specs.Network.{Variable, IsNetwork};
-ghost use Rattle.mk_tree.specs.Checked.{IsTreeOf};
-ghost use Rattle.mk_beliefs.specs.Meanings.{weights_of};
-ghost use Rattle.mk_best.specs.Chances.{IsPlaced};
+ghost use Rattle.mk_expect.specs.Below.{max_points_per_bit, Variable, IsNetwork, IsTreeOf};
+ghost use Rattle.mk_expect.specs.Below.{weights_of, IsPlaced};
 ghost use Rattle.mk_expect.specs.Expectation.{CoversExpectation, HasFewBits};
 ghost use Rattle.mk_expect.specs.inner.Added.{AddsAll};
 ghost use Rattle.mk_expect.specs.inner.Tallies.{IsWithin};

@@ -1,9 +1,7 @@
 //! What the entries of a history add.
 ghost use Rattle.std.specs.Prelude.{◌≡◌, ℕ, ◌+◌, ◌*◌, ◌^◌, List, ◌==◌, if◌then◌else◌};
-ghost use Rattle.mk_net.specs.Network.{Variable};
+ghost use Rattle.mk_expect.specs.Below.{Variable, Meaning, change_of};
 ghost use Rattle.mk_exact.specs.History as exact;
-ghost use Rattle.mk_engine.specs.Meaning.{Meaning};
-ghost use Rattle.mk_history.specs.Entries.{change_of};
 ghost use Rattle.mk_expect.specs.Expectation.{AreBits};
 ghost use Rattle.mk_expect.specs.inner.Added.{AddsEntry, AddsEntries};
 ghost use Rattle.mk_expect.specs.inner.Shares.{HasWhole, CanAdd, CanAddAll};

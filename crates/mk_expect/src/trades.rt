@@ -1,11 +1,6 @@
 //! What a trade adds.
 ghost use Rattle.std.specs.Prelude.{◌≡◌, ℕ, ◌+◌, ◌*◌, ◌^◌, ◌<◌, ◌≤◌, List, length};
-ghost use Rattle.mk_net.specs.Network.{Variable};
-ghost use Rattle.mk_net.specs.Trades.{trade_ratio};
-ghost use Rattle.mk_states.specs.Events.{always};
-ghost use Rattle.mk_exact.specs.History.{Entry};
-ghost use Rattle.mk_exact.specs.Weight.{total};
-ghost use Rattle.mk_engine.specs.Meaning.{Meaning};
+ghost use Rattle.mk_expect.specs.Below.{Variable, trade_ratio, always, Entry, total, Meaning};
 ghost use Rattle.mk_expect.specs.Expectation.{AreBits};
 ghost use Rattle.mk_expect.specs.inner.Parts.{values_gained, values_owed};
 ghost use Rattle.mk_expect.specs.inner.Shares.{HasWhole, CanTally};

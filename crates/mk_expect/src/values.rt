@@ -1,14 +1,8 @@
 //! What a trade adds, by the values of its variable.
 ghost use Rattle.std.specs.Prelude.{◌≡◌, ℕ, ◌+◌, ◌*◌, ◌^◌, ◌<◌, ◌≤◌, List, length};
-ghost use Rattle.mk_net.specs.Network.{Variable};
-ghost use Rattle.mk_net.specs.Trades.{trade_ratio};
-ghost use Rattle.mk_states.specs.Events.{holds, always};
-ghost use Rattle.mk_exact.specs.History.{Entry};
-ghost use Rattle.mk_exact.specs.Weight.{total};
-ghost use Rattle.mk_tree.specs.Given.{GivenTree};
-ghost use Rattle.mk_engine.specs.Meaning.{Meaning};
+ghost use Rattle.mk_expect.specs.Below.{Variable, trade_ratio, holds, always, Entry, total};
+ghost use Rattle.mk_expect.specs.Below.{GivenTree, Meaning, units_of};
 ghost use Rattle.mk_expect.specs.Expectation.{AreBits};
-ghost use Rattle.mk_states.specs.Ratios.{units_of};
 ghost use Rattle.mk_expect.specs.inner.Parts.{unit_bits, event_at, value_gained, value_owed};
 ghost use Rattle.mk_expect.specs.inner.Parts.{values_gained, values_owed};
 ghost use Rattle.mk_expect.specs.inner.Shares.{IsShare, HasWhole, CanShare, CanTallyAt};

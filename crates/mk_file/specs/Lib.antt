@@ -1,3 +1,4 @@
+pub mod Below
 pub mod Walk
 pub mod Counts
 pub mod Cliques

@@ -1,10 +1,8 @@
 //! The market that a draft gives.
 
 ghost use Rattle.std.specs.Prelude.{◌≡◌, ◌≢◌, None, Some, Ok, IfOk, IfErr};
-ghost use Rattle.mk_net.specs.Drafts.{drafts_of};
-ghost use Rattle.mk_net.specs.Checked.{checked_network, first_fault};
-ghost use Rattle.mk_tree.specs.Checked.{IsTreeOf};
-ghost use Rattle.mk_tree.specs.Tests.{tree_fault};
+ghost use Rattle.mk_file.specs.Below.{drafts_of, checked_network, first_fault, IsTreeOf};
+ghost use Rattle.mk_file.specs.Below.{tree_fault};
 ghost use Rattle.mk_file.specs.Counts.{counts_fault};
 ghost use Rattle.mk_file.specs.Cliques.{given_tree};
 ghost use Rattle.mk_file.specs.inner.Known.{trees_fault};

@@ -1,10 +1,7 @@
 //! The cliques and links of a market file.
 
 ghost use Rattle.std.specs.Prelude.{◌≡◌, ◌≢◌, ◌-◌, ◌<◌, ◌≤◌, length, map, position, nat_abs, string_bytes, All, None, Some, IfSome, IfErr, IfOk, not, is_none};
-ghost use Rattle.mk_names.specs.Name.{IsName};
-ghost use Rattle.mk_names.specs.Texts.{same_text};
-ghost use Rattle.mk_net.specs.Drafts.{texts_of};
-ghost use Rattle.mk_net.specs.Firsts.{first_in};
+ghost use Rattle.mk_file.specs.Below.{IsName, same_text, texts_of, first_in};
 ghost use Rattle.mk_file.specs.Counts.{is_whole_within};
 ghost use Rattle.mk_file.specs.Cliques.{link_at};
 ghost use Rattle.mk_file.specs.inner.Known.{is_bad_clique, clique_in, set_in, IsSetOf};

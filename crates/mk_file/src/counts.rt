@@ -1,15 +1,17 @@
 //! The numbers of a market file.
 
 ghost use Rattle.std.specs.Prelude.{◌≡◌, ◌<◌, ◌≤◌, ◌^◌, length, map, None, Some, IfOk, IfErr};
-ghost use Rattle.mk_net.specs.Drafts.{texts_of};
-ghost use Rattle.mk_net.specs.Firsts.{first_in};
+ghost use Rattle.mk_file.specs.Below.{texts_of, first_in};
 ghost use Rattle.mk_file.specs.Counts as counts;
+ghost use Rattle.mk_net.specs.Bounds.{max_cliques};
 ghost use Rattle.mk_file.specs.inner.Views.{draft_of};
 
 use crate::fault::FileFault;
 use crate::walk::MarketDraft;
 use mk_names::Key;
-use mk_net::limits::{MAX_MARKET_TRADES, MAX_POINTS_PER_BIT, MAX_TRANSFERS, MAX_USERS};
+use mk_names::limits::{
+    MAX_CLIQUES, MAX_MARKET_TRADES, MAX_POINTS_PER_BIT, MAX_TRANSFERS, MAX_USERS, MAX_VARIABLES,
+};
 
 /// The fault of a whole number that is not from 1 to a limit.
 fn whole_fault(key: Key, high: u32, n: i64) -> Option<FileFault>
@@ -21,12 +23,12 @@ fn whole_fault(key: Key, high: u32, n: i64) -> Option<FileFault>
     }
 }
 
-/// The fault of a number of items that is not from 1 to 256.
-fn items_fault(key: Key, place: u32, n: usize) -> Option<FileFault>
+/// The fault of a number of items that is not from 1 to `most`.
+fn items_fault(key: Key, most: u32, place: u32, n: usize) -> Option<FileFault>
     requires { n < 2 ^ 63 }
-    ensures { result ≡ counts.items_fault key 1 256 place n }
+    ensures { result ≡ counts.items_fault key 1 most place n }
 {
-    if n < 1 || n > 256 {
+    if n < 1 || n > most as usize {
         return Some(FileFault::Count {
             key,
             place,
@@ -50,15 +52,15 @@ fn links_fault(cliques: &[Vec<String>], links: &[i64]) -> Option<FileFault>
     None
 }
 
-/// The fault of the first clique that has not 1 to 256 names.
+/// The fault of the first clique that names no variable, or more than a network has.
 fn names_fault(cliques: &[Vec<String>]) -> Option<FileFault>
-    requires { length cliques.now ≤ 256 }
+    requires { length cliques.now ≤ max_cliques }
     ensures { result ≡ first_in counts.names_at 1 (map texts_of cliques.now) }
 {
     let mut place = 0;
     'cliques: for names in cliques {
         place += 1;
-        if let Some(fault) = items_fault(Key::Cliques, place, names.len()) {
+        if let Some(fault) = items_fault(Key::Cliques, MAX_VARIABLES, place, names.len()) {
             return Some(fault);
         }
     }
@@ -94,8 +96,8 @@ pub fn check_counts(draft: &MarketDraft) -> Result<(), FileFault>
     ensures stops { IfErr result (λ stop. counts.counts_fault (draft_of draft.now) ≡ Some stop) }
 {
     check_wholes(draft)?;
-    stop_at(items_fault(Key::Variable, 0, draft.draft.variables.len()))?;
-    stop_at(items_fault(Key::Cliques, 0, draft.cliques.len()))?;
+    stop_at(items_fault(Key::Variable, MAX_VARIABLES, 0, draft.draft.variables.len()))?;
+    stop_at(items_fault(Key::Cliques, MAX_CLIQUES, 0, draft.cliques.len()))?;
     stop_at(links_fault(&draft.cliques, &draft.links))?;
     stop_at(draft.draft.count_fault().map(FileFault::from))?;
     stop_at(names_fault(&draft.cliques))

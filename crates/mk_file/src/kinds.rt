@@ -1,9 +1,7 @@
 //! The kinds of values that a market file holds, as owned copies: `None` where a value is of another kind.
 
 ghost use Rattle.std.specs.Prelude.{◌≡◌, IfOk, option_map, string_bytes};
-ghost use Rattle.toml.specs.Data.{as_str, as_table};
-ghost use Rattle.toml.specs.View.{view};
-ghost use Rattle.mk_net.specs.Drafts.{texts_of, rows_of};
+ghost use Rattle.mk_file.specs.Below.{as_str, as_table, view, texts_of, rows_of};
 ghost use Rattle.mk_file.specs.Walk.{list_of, texts, wholes};
 ghost use Rattle.mk_file.specs.inner.Views.{lists_of, tables_of};
 

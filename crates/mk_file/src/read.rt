@@ -1,8 +1,7 @@
 //! Reading a market file.
 
 ghost use Rattle.std.specs.Prelude.{◌≡◌, ◌≢◌, ℕ, ◌<◌, length, Some, None, Ok, Err, IfOk, IfErr};
-ghost use Rattle.toml.specs.View.{table_view};
-ghost use Rattle.mk_tree.specs.Checked.{IsTreeOf};
+ghost use Rattle.mk_file.specs.Below.{table_view, IsTreeOf};
 ghost use Rattle.mk_file.specs.File.{file_of, of_document, document_of, max_file_bytes};
 ghost use Rattle.mk_file.specs.inner.Views.{Gives};
 ghost use Rattle.mk_file.specs.MarketOf.{market_of};

@@ -1,10 +1,8 @@
 //! Keys with values of a kind: those that have to be there, and those that may be absent.
 
 ghost use Rattle.std.specs.Prelude.{◌≡◌, Some, None, IfOk, IfErr, OnErr, false, option_map, string_bytes};
-ghost use Rattle.toml.specs.Data.{get_member, as_str, as_integer, as_bool, as_table};
-ghost use Rattle.toml.specs.View.{view, table_view};
-ghost use Rattle.mk_names.specs.Key.{key_text};
-ghost use Rattle.mk_net.specs.Drafts.{texts_of, rows_of};
+ghost use Rattle.mk_file.specs.Below.{get_member, as_str, as_integer, as_bool, as_table, view};
+ghost use Rattle.mk_file.specs.Below.{table_view, key_text, texts_of, rows_of};
 ghost use Rattle.mk_file.specs.Walk.{required, optional, list_of, texts, wholes};
 ghost use Rattle.mk_file.specs.inner.Views.{Gives, lists_of, tables_of};
 

@@ -1,8 +1,7 @@
 //! The walk over a document: each key there and of its kind, or the first that is not.
 
 ghost use Rattle.std.specs.Prelude.{◌≡◌, ◌+◌, ◌≤◌, map, MatchResult};
-ghost use Rattle.toml.specs.View.{table_view};
-ghost use Rattle.mk_net.specs.Drafts.{draft_of_variable};
+ghost use Rattle.mk_file.specs.Below.{table_view, draft_of_variable};
 ghost use Rattle.mk_file.specs.Walk.{variable_in, variables_in, draft_in};
 ghost use Rattle.mk_file.specs.inner.Views.{Gives, draft_of};
 
@@ -12,7 +11,7 @@ use crate::required::{
     required_whole, required_wholes, whole_or,
 };
 use mk_names::Key;
-use mk_net::limits::{USUAL_TRANSFERS, USUAL_USERS};
+use mk_names::limits::{USUAL_TRANSFERS, USUAL_USERS};
 use mk_net::{Draft, VariableDraft};
 use std::alloc::Global;
 use toml::Table;

@@ -1,3 +1,4 @@
+pub mod Below
 pub mod Entries
 pub mod Histories
 pub mod inner

@@ -2,19 +2,18 @@
 
 ghost use Rattle.std.specs.Prelude.{◌≡◌, ◌<◌, ◌≤◌, ◌+◌, [], ◌∷◌, ◌++◌, false, length, map, IfOk};
 ghost use Rattle.std.specs.Prelude.{vec_len, vec_capacity};
-ghost use Rattle.std.specs.List.{count_by};
-ghost use Rattle.mk_net.specs.Bounds.{max_variables, max_users, max_transfers, max_market_trades};
-ghost use Rattle.mk_net.specs.Trades.{trade_ratio};
-ghost use Rattle.mk_exact.specs.History.{Join, Deposit, Withdraw, Trade, Resolve, Settle, Add};
-ghost use Rattle.mk_exact.specs.History.{users, trades as trades_in, resolutions, additions};
-ghost use Rattle.mk_exact.specs.History.{is_transfer, is_settled};
+ghost use Rattle.mk_history.specs.Below.{count_by, max_variables, max_users, max_transfers};
+ghost use Rattle.mk_history.specs.Below.{max_market_trades, trade_ratio, Join, Deposit, Withdraw};
+ghost use Rattle.mk_history.specs.Below.{Trade, Resolve, Settle, Add, users, resolutions};
+ghost use Rattle.mk_history.specs.Below.{additions, is_transfer, is_settled};
+ghost use Rattle.mk_exact.specs.History.{trades as trades_in};
 ghost use Rattle.mk_history.specs.Entries.{ends, addition_of};
 ghost use Rattle.mk_history.specs.Histories.{max_additions};
 
 use crate::change::{Change, KeptTrade};
 use crate::entry::{AddedQuestion, Payout};
 use mk_names::Name;
-use mk_net::limits::{MAX_CONDITION, MAX_VALUES, MAX_VARIABLES};
+use mk_names::limits::{MAX_CONDITION, MAX_VALUES, MAX_VARIABLES};
 use mk_net::{NoMemory, Pair, Ratio};
 use std::alloc::Global;
 use std::marker::Model;

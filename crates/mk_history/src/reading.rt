@@ -1,9 +1,7 @@
 //! A kept change, read.
 
 ghost use Rattle.std.specs.Prelude.{◌≡◌, ◌<◌, ◌≤◌, ◌+◌, [], ◌∷◌, ◌++◌, length, take, get_or};
-ghost use Rattle.mk_net.specs.Bounds.{max_condition, max_values};
-ghost use Rattle.mk_net.specs.Events.{AreApart};
-ghost use Rattle.mk_net.specs.Trades.{trade_ratio};
+ghost use Rattle.mk_history.specs.Below.{max_condition, max_values, AreApart, trade_ratio};
 ghost use Rattle.mk_history.specs.Entries.{change_of};
 ghost use Rattle.mk_history.specs.inner.Kept.{IsKeptTrade, ratio_kept};
 

@@ -1,16 +1,13 @@
 //! The engine.
 
 ghost use Rattle.std.specs.Prelude.{◌≡◌, ℕ, ◌+◌, ◌<◌, ◌≤◌, length, true, IfOk, ⊤};
-ghost use Rattle.mk_net.specs.Bounds.{max_clique_cells, number_limit};
-ghost use Rattle.mk_sets.specs.Sets.{is_member};
-ghost use Rattle.mk_net.specs.Network.{IsNetwork};
-ghost use Rattle.mk_engine.specs.Meaning.{Meaning, whole_sum};
-ghost use Rattle.mk_engine.specs.Apart.{IsApart, without_ratios};
-ghost use Rattle.mk_engine.specs.Beliefs.{CanBelieve, IsBelief};
+ghost use Rattle.mk_joint.specs.Below.{max_clique_cells, number_limit, is_member, IsNetwork};
+ghost use Rattle.mk_joint.specs.Below.{Meaning, whole_sum, IsApart, without_ratios, CanBelieve};
+ghost use Rattle.mk_joint.specs.Below.{IsBelief};
 ghost use Rattle.mk_joint.specs.inner.Joints.{HasJoint, IsPlanFor, joint_states};
 
 use mk_engine::Engine;
-use mk_net::limits::MAX_CLIQUE_CELLS;
+use mk_names::limits::MAX_CLIQUE_CELLS;
 use mk_net::{Event, Network, NoMemory, Pair, Ratio};
 use mk_scope::{CellList, Scope};
 use mk_semiring::Semiring;

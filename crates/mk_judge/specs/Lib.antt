@@ -1,3 +1,4 @@
+pub mod Below
 pub mod Judged
 pub mod Compared
 pub mod Prices

@@ -1,8 +1,6 @@
 //! Judgements of whole distributions: of the interval of each value, and of its units.
 ghost use Rattle.std.specs.Prelude.{◌≡◌, ◌≤◌, false, List, All, Option, IsTrue, option_map};
-ghost use Rattle.mk_exact.specs.Limits.{Side};
-ghost use Rattle.mk_spread.specs.Bounds.{AreRightBounds, AreFairUnits};
-ghost use Rattle.mk_quote.specs.Values.{sides_in};
+ghost use Rattle.mk_judge.specs.Below.{Side, AreRightBounds, AreFairUnits, sides_in};
 ghost use Rattle.mk_judge.specs.Distributions.{AreEachSideBounds, HaveTradeRange};
 ghost use Rattle.mk_judge.specs.Distributions.{AreIntervalsNear, AreSomeUnitsNear};
 

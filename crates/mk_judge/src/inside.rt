@@ -8,7 +8,7 @@ ghost use Rattle.mk_judge.specs.inner.Within.{AllInside, SomeOutside, SaysInside
 use crate::Judged;
 use crate::wanted::Wanted;
 use crate::wanting::wanted_of;
-use mk_net::limits::MILLION;
+use mk_names::limits::MILLION;
 use mk_quote::SideBounds;
 
 /// Judges, outside of the small case, whether each share of one side that is wanted lies inside

@@ -1,8 +1,7 @@
 //! Judgements of the interval that is printed for one value of a distribution.
 ghost use Rattle.std.specs.Prelude.{◌≡◌, ⊤, false, Some, IsTrue};
-ghost use Rattle.mk_exact.specs.Limits.{Side, IsWanted, IsFloorSolvent};
-ghost use Rattle.mk_spread.specs.Bounds.{IsRightInterval, NoShare};
-ghost use Rattle.mk_quote.specs.Sides.{AreBoundsOf, AreExact};
+ghost use Rattle.mk_judge.specs.Below.{Side, IsWanted, IsFloorSolvent, IsRightInterval, NoShare};
+ghost use Rattle.mk_judge.specs.Below.{AreBoundsOf, AreExact};
 ghost use Rattle.mk_judge.specs.Judged.{Judges};
 ghost use Rattle.mk_judge.specs.Units.{AreSideBounds, HasTradeRange};
 ghost use Rattle.mk_judge.specs.Wanted.{IsWantedNear, SomeShare};

@@ -1,7 +1,6 @@
 //! The least units that leave a factor at least one, where its bounds tell them.
 ghost use Rattle.std.specs.Prelude.{◌≡◌, ℕ, ◌+◌, ◌^◌, ◌<◌};
-ghost use Rattle.mk_exact.specs.Factors.{Fraction};
-ghost use Rattle.mk_enclose.specs.Enclosure.{Encloses};
+ghost use Rattle.mk_judge.specs.Below.{Fraction, Encloses};
 ghost use Rattle.mk_judge.specs.Powers.{StandsBeside};
 ghost use Rattle.mk_judge.specs.Cash.{IsHeld};
 ghost use Rattle.mk_judge.specs.Units.{HasTradeRange};

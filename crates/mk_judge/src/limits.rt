@@ -1,8 +1,6 @@
 //! Judgements of the shares that can be traded.
 ghost use Rattle.std.specs.Prelude.{◌≡◌, ℕ, ◌+◌, ◌*◌, ◌^◌, ◌<◌, ◌≤◌, false};
-ghost use Rattle.mk_net.specs.Bounds.{number_limit};
-ghost use Rattle.mk_exact.specs.Limits.{Side};
-ghost use Rattle.mk_quote.specs.Sides.{AreBoundsOf};
+ghost use Rattle.mk_judge.specs.Below.{number_limit, Side, AreBoundsOf};
 ghost use Rattle.mk_judge.specs.Judged.{Judges};
 ghost use Rattle.mk_judge.specs.Units.{AreSideBounds, HasTradeRange};
 ghost use Rattle.mk_judge.specs.Limits.{CanBeTraded, IsLeastSolvent, AreEndsNear, IsIntervalNear};
@@ -10,7 +8,7 @@ ghost use Rattle.mk_judge.specs.Limits.{CanBeTraded, IsLeastSolvent, AreEndsNear
 use crate::Judged;
 use crate::least::{Least, least_of};
 use crate::share::compare_below;
-use mk_net::limits::{MILLION, RATIO_UNIT};
+use mk_names::limits::{MILLION, RATIO_UNIT};
 use mk_quote::SideBounds;
 
 /// Judges, outside of the small case, whether each share of an interval can be traded: whether

@@ -2,7 +2,7 @@
 ghost use Rattle.std.specs.Prelude.{◌≡◌, ◌^◌, ◌≤◌};
 ghost use Rattle.mk_net.specs.Bounds.{sharpness};
 
-use mk_net::limits::USUAL_TRADES;
+use mk_names::limits::USUAL_TRADES;
 
 /// Printed prices and cash are near by one part in this, where there may be so many trades.
 pub fn near_part(most_trades: u32) -> u64

@@ -1,10 +1,8 @@
 //! Judgements of the values of a distribution, place by place.
 ghost use Rattle.std.specs.Prelude.{◌≡◌, ◌≤◌, false, IsTrue, map, List};
 ghost use Rattle.std.specs.Prelude.{Option, IfSome, option_map};
-ghost use Rattle.std.specs.List.{AllZip, AllByRecursion};
-ghost use Rattle.mk_exact.specs.Limits.{Side};
-ghost use Rattle.mk_spread.specs.Bounds.{IsRightFor, IsFairFor, AreFairUnits};
-ghost use Rattle.mk_quote.specs.Values.{side_in};
+ghost use Rattle.mk_judge.specs.Below.{AllZip, AllByRecursion, Side, IsRightFor, IsFairFor};
+ghost use Rattle.mk_judge.specs.Below.{AreFairUnits, side_in};
 ghost use Rattle.mk_judge.specs.Judged.{Judges};
 ghost use Rattle.mk_judge.specs.Units.{HasTradeRange, AreUnitsNear};
 ghost use Rattle.mk_judge.specs.Questions.{IsSideNear};
@@ -15,7 +13,7 @@ ghost use Rattle.mk_judge.specs.inner.Absent.{SaysAbsent, SaysSomeAbsent};
 use crate::Judged;
 use crate::interval::{judge_interval, judge_no_share};
 use crate::units::judge_units;
-use mk_net::limits::RATIO_UNIT;
+use mk_names::limits::RATIO_UNIT;
 use mk_quote::{SideBounds, SpreadBounds, ValueBounds};
 
 /// Whether the interval of each value is right. Other numbers of them than of values are not.

@@ -1,10 +1,7 @@
 //! Judgements of printed prices.
 ghost use Rattle.std.specs.Prelude.{◌≡◌, ℕ, ◌+◌, ◌-◌, ◌*◌, ◌^◌, ◌<◌, ◌≤◌, ⊤, true, false, IsTrue};
-ghost use Rattle.mk_net.specs.Bounds.{sharpness};
-ghost use Rattle.mk_exact.specs.Factors.{Fraction};
-ghost use Rattle.mk_exact.specs.Prices.{CoversPrice};
-ghost use Rattle.mk_enclose.specs.Enclosure.{upper_of, Encloses, HasGrade, IsExact};
-ghost use Rattle.mk_scaled.specs.Range.{IsInRange};
+ghost use Rattle.mk_judge.specs.Below.{sharpness, Fraction, CoversPrice, upper_of, Encloses};
+ghost use Rattle.mk_judge.specs.Below.{HasGrade, IsExact, IsInRange};
 ghost use Rattle.mk_judge.specs.Compared.{Says, AreNear};
 ghost use Rattle.mk_judge.specs.declared.price.PriceBounds.TheVariants.{Between};
 ghost use Rattle.mk_judge.specs.Judged.{Judges};
@@ -15,7 +12,7 @@ use crate::comparing::Compared;
 use crate::near::near_part;
 use crate::share::{compare_above, compare_below};
 use mk_enclose::Enclosure;
-use mk_net::limits::PRICE_UNIT;
+use mk_names::limits::PRICE_UNIT;
 
 /// A price by bounds: of what cannot come, of what alone can, or bounds of its numerator and its
 /// denominator.

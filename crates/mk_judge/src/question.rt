@@ -1,8 +1,6 @@
 //! Judgements of the limits that are printed for a question.
 ghost use Rattle.std.specs.Prelude.{◌≡◌, ◌-◌, ◌⊎◌, ◌↔◌, false, Some, IsTrue};
-ghost use Rattle.mk_net.specs.Bounds.{million};
-ghost use Rattle.mk_exact.specs.Limits.{Side, IsWithinRange, AreRight};
-ghost use Rattle.mk_quote.specs.Bounds.{hit_side, miss_side};
+ghost use Rattle.mk_judge.specs.Below.{million, Side, IsWithinRange, AreRight, hit_side, miss_side};
 ghost use Rattle.mk_judge.specs.Judged.{Judges};
 ghost use Rattle.mk_judge.specs.Units.{AreSideBounds, HasTradeRange};
 ghost use Rattle.mk_judge.specs.Limits.{CanBeTraded, IsIntervalNear};
@@ -13,7 +11,7 @@ use crate::exact::judge_exact_limits;
 use crate::inside::{judge_inside, wanted_of_both};
 use crate::limits::judge_tradable;
 use crate::wanting::wanted_of;
-use mk_net::limits::MILLION;
+use mk_names::limits::MILLION;
 use mk_quote::{Bounds, SideBounds};
 
 /// Judges the limits that are printed for a question: what is inside can be traded, and what can

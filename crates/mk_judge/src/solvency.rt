@@ -1,10 +1,7 @@
 //! The units that leave a factor at least one.
 ghost use Rattle.std.specs.Prelude.{◌≡◌, ℕ, ◌+◌, ◌*◌, ◌^◌, ◌<◌, ◌≤◌, MatchBool, MatchOption};
-ghost use Rattle.mk_net.specs.Bounds.{number_limit};
-ghost use Rattle.mk_states.specs.Ratios.{unit};
-ghost use Rattle.mk_exact.specs.Factors.{Fraction};
-ghost use Rattle.mk_exact.specs.Prices.{IsSolvent};
-ghost use Rattle.mk_enclose.specs.Enclosure.{Encloses, HasGrade, IsExact};
+ghost use Rattle.mk_judge.specs.Below.{number_limit, unit, Fraction, IsSolvent, Encloses, HasGrade};
+ghost use Rattle.mk_judge.specs.Below.{IsExact};
 ghost use Rattle.mk_judge.specs.Compared.{AreNear, Says};
 ghost use Rattle.mk_judge.specs.Judged.{Judges};
 ghost use Rattle.mk_judge.specs.Powers.{StandsBeside};

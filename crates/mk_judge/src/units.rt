@@ -1,10 +1,7 @@
 //! Judgements of the units of a trade.
 ghost use Rattle.std.specs.Prelude.{◌≡◌, ℕ, ◌+◌, ◌*◌, ◌^◌, ◌<◌, ◌≤◌, ⊤, IsTrue};
-ghost use Rattle.mk_net.specs.Bounds.{number_limit};
-ghost use Rattle.mk_exact.specs.Factors.{Fraction};
-ghost use Rattle.mk_exact.specs.Prices.{IsFair};
-ghost use Rattle.mk_exact.specs.Limits.{Side, IsFairAndSolvent};
-ghost use Rattle.mk_enclose.specs.Enclosure.{Encloses, IsExact};
+ghost use Rattle.mk_judge.specs.Below.{number_limit, Fraction, IsFair, Side, IsFairAndSolvent};
+ghost use Rattle.mk_judge.specs.Below.{Encloses, IsExact};
 ghost use Rattle.mk_judge.specs.Judged.{Judges};
 ghost use Rattle.mk_judge.specs.Units.{AreSideBounds, HasTradeRange, IsFairNear, AreUnitsNear};
 
@@ -12,7 +9,7 @@ use crate::Judged;
 use crate::share::compare_below;
 use crate::solvency::judge_solvent;
 use mk_enclose::Enclosure;
-use mk_net::limits::{MILLION, RATIO_UNIT};
+use mk_names::limits::{MILLION, RATIO_UNIT};
 use mk_quote::SideBounds;
 
 /// Judges units that are printed for one side of a trade to `share` parts in a million. With

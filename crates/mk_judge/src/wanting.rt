@@ -1,7 +1,6 @@
 //! The shares of one side that are wanted: those that can well be traded.
 ghost use Rattle.std.specs.Prelude.{◌≡◌, ℕ, ◌+◌, ◌*◌, ◌^◌, ◌<◌, ◌≤◌, ◌↔◌, min, false, MatchOption};
-ghost use Rattle.mk_exact.specs.Limits.{Side, IsWanted};
-ghost use Rattle.mk_enclose.specs.Enclosure.{Encloses};
+ghost use Rattle.mk_judge.specs.Below.{Side, IsWanted, Encloses};
 ghost use Rattle.mk_judge.specs.Powers.{StandsBeside};
 ghost use Rattle.mk_judge.specs.Units.{AreSideBounds, HasTradeRange};
 ghost use Rattle.mk_judge.specs.Wanted.{IsSomeNear, IsWantedNear, HasEnds};
@@ -12,7 +11,7 @@ use crate::product::Product;
 use crate::scale::Scale;
 use crate::wanted::Wanted;
 use mk_enclose::Enclosure;
-use mk_net::limits::MILLION as PARTS;
+use mk_names::limits::MILLION as PARTS;
 use mk_quote::SideBounds;
 use mk_scaled::Scaled;
 

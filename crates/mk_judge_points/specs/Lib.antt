@@ -1,3 +1,4 @@
+pub mod Below
 pub mod Cash
 pub mod Losses
 pub mod inner

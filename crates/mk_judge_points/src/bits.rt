@@ -1,14 +1,9 @@
 //! Judgements of withdrawals: bits that a factor covers, and the most that it covers.
 ghost use Rattle.std.specs.Prelude.{◌≡◌, ℕ, ◌+◌, ◌-◌, ◌*◌, ◌^◌, ◌<◌, ◌≤◌, ◌⊎◌, IsTrue};
-ghost use Rattle.mk_net.specs.Bounds.{number_limit, sharpness};
-ghost use Rattle.mk_exact.specs.Factors.{Fraction};
-ghost use Rattle.mk_exact.specs.Accepted.{Covers, IsMost};
-ghost use Rattle.mk_scaled.specs.Range.{IsInRange};
-ghost use Rattle.mk_enclose.specs.Enclosure.{upper_of, Encloses, HasGrade, IsExact};
-ghost use Rattle.mk_judge.specs.Compared.{AreNear, LeavesOpen};
-ghost use Rattle.mk_judge.specs.Judged.{Judges};
-ghost use Rattle.mk_judge.specs.Powers.{HasCashRange, StandsBeside};
-ghost use Rattle.mk_judge.specs.Cash.{IsOwned};
+ghost use Rattle.mk_judge_points.specs.Below.{number_limit, sharpness, Fraction, Covers, IsMost};
+ghost use Rattle.mk_judge_points.specs.Below.{IsInRange, upper_of, Encloses, HasGrade, IsExact};
+ghost use Rattle.mk_judge_points.specs.Below.{AreNear, LeavesOpen, Judges, HasCashRange};
+ghost use Rattle.mk_judge_points.specs.Below.{StandsBeside, IsOwned};
 ghost use Rattle.mk_judge_points.specs.Cash.{IsBitsNear, AreBitsNear};
 
 use crate::cash::almost;

@@ -1,13 +1,9 @@
 //! Judgements of printed cash.
 ghost use Rattle.std.specs.Prelude.{◌≡◌, ℕ, ◌+◌, ◌-◌, ◌*◌, ◌^◌, ◌<◌, ◌≤◌, IsTrue};
-ghost use Rattle.mk_net.specs.Bounds.{max_points_per_bit, number_limit, sharpness};
-ghost use Rattle.mk_exact.specs.Factors.{Fraction};
-ghost use Rattle.mk_exact.specs.Cash.{CoversCash};
-ghost use Rattle.mk_enclose.specs.Enclosure.{upper_of, Encloses, HasGrade, IsExact};
+ghost use Rattle.mk_judge_points.specs.Below.{max_points_per_bit, number_limit, sharpness};
+ghost use Rattle.mk_judge_points.specs.Below.{Fraction, CoversCash, upper_of, Encloses, HasGrade};
+ghost use Rattle.mk_judge_points.specs.Below.{IsExact, Judges, HasCashRange, IsOwned};
 ghost use Rattle.mk_judge_points.specs.inner.Ends.{AreCashEnds};
-ghost use Rattle.mk_judge.specs.Judged.{Judges};
-ghost use Rattle.mk_judge.specs.Powers.{HasCashRange};
-ghost use Rattle.mk_judge.specs.Cash.{IsOwned};
 ghost use Rattle.mk_judge_points.specs.Cash.{IsCashNear, ArePowersNear};
 
 use crate::power::{compare_worth, raised};

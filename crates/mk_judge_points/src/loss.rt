@@ -1,10 +1,8 @@
 //! Judgements of the printed bound on the operator's loss.
 ghost use Rattle.std.specs.Prelude.{◌≡◌, ℕ, ◌+◌, ◌*◌, ◌^◌, ◌<◌, ◌≤◌};
-ghost use Rattle.mk_net.specs.Bounds.{max_variables, max_points_per_bit, number_limit, million};
-ghost use Rattle.mk_exact.specs.Risk.{CoversBound};
-ghost use Rattle.mk_scaled.specs.Range.{two_to};
-ghost use Rattle.mk_enclose.specs.Enclosure.{upper_of, Encloses, HasGrade, IsGradedWithin};
-ghost use Rattle.mk_judge.specs.Judged.{Judges};
+ghost use Rattle.mk_judge_points.specs.Below.{max_variables, max_points_per_bit, number_limit};
+ghost use Rattle.mk_judge_points.specs.Below.{million, CoversBound, two_to, upper_of, Encloses};
+ghost use Rattle.mk_judge_points.specs.Below.{HasGrade, IsGradedWithin, Judges};
 ghost use Rattle.mk_judge_points.specs.Cash.{ArePowersNear};
 ghost use Rattle.mk_judge_points.specs.Losses.{quotient, IsBoundNear};
 ghost use Rattle.mk_judge_points.specs.inner.Ends.{AreCashEnds};
@@ -13,6 +11,7 @@ use crate::cash::almost;
 use crate::power::{compare_lifted, raised};
 use mk_enclose::Enclosure;
 use mk_judge::Judged;
+use mk_names::limits::MILLION;
 
 /// Judges an interval that is printed for the most that the operator can lose, where `least`
 /// holds the least initial weight of
@@ -56,7 +55,7 @@ fn total_of(variables: u32) -> Enclosure
     ensures grade { HasGrade result (4 * variables) }
     ensures upper { upper_of result ≤ two_to 6000 }
 {
-    raised(&Enclosure::exact(1_000_000), variables)
+    raised(&Enclosure::exact(MILLION as u64), variables)
 }
 
 /// The ends, which may be off by less than one part in `2^parts` of the quotient of the two

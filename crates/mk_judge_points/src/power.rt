@@ -1,9 +1,7 @@
 //! Comparisons of powers of enclosed numbers, where powers of two stand beside them.
 ghost use Rattle.std.specs.Prelude.{◌≡◌, ℕ, ◌+◌, ◌*◌, ◌^◌, ◌<◌, ◌≤◌, min, MatchBool};
-ghost use Rattle.mk_scaled.specs.Range.{IsInRange};
-ghost use Rattle.mk_enclose.specs.Enclosure.{upper_of, Encloses, HasGrade};
-ghost use Rattle.mk_judge.specs.Compared.{Says, LeavesOpen};
-ghost use Rattle.mk_judge.specs.Powers.{StandsBeside};
+ghost use Rattle.mk_judge_points.specs.Below.{IsInRange, upper_of, Encloses, HasGrade, Says};
+ghost use Rattle.mk_judge_points.specs.Below.{LeavesOpen, StandsBeside};
 
 use mk_enclose::Enclosure;
 use mk_judge::{Compared, Scale};

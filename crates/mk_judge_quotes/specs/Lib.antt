@@ -1,3 +1,4 @@
+pub mod Below
 pub mod Clear
 pub mod Editing
 pub mod Small

@@ -3,16 +3,12 @@
 ghost use Rattle.std.specs.Prelude.{◌≡◌, ℕ, ◌+◌, ◌-◌, ◌*◌, ◌^◌};
 ghost use Rattle.std.specs.Prelude.{◌<◌, ◌≤◌, ◌↔◌, List, None, MatchOption, IsTrue};
 ghost use Rattle.mk_net.specs.declared.words.QuestionText.{QuestionText};
-ghost use Rattle.mk_exact.specs.History.{Entry};
-ghost use Rattle.mk_exact.specs.Limits.{Inside};
-ghost use Rattle.mk_exact.specs.Market.{Market};
+ghost use Rattle.mk_judge_quotes.specs.Below.{Entry, Inside, Market, Judges, HasTradeRange};
+ghost use Rattle.mk_judge_quotes.specs.Below.{user_number, IsLimits, IsTrade, IsJudged};
+ghost use Rattle.mk_judge_quotes.specs.Below.{IsJudgedAfresh};
 ghost use Rattle.mk_quote.specs.Bounds as side;
-ghost use Rattle.mk_judge.specs.Judged.{Judges};
-ghost use Rattle.mk_judge.specs.Units.{HasTradeRange};
 ghost use Rattle.mk_reply.specs.declared.reply.Reply.TheVariants.{Refused};
 ghost use Rattle.mk_reply.specs.declared.refusal.Refusal.TheVariants.{Beyond};
-ghost use Rattle.mk_rules.specs.Refusals.{user_number};
-ghost use Rattle.mk_rules.specs.Answers.{IsLimits, IsTrade, IsJudged, IsJudgedAfresh};
 ghost use Rattle.mk_judge_quotes.specs.Editing.{AreEditBounds, AreLimitsLeftOpen};
 ghost use Rattle.mk_judge_quotes.specs.Editing.{IsEditLeftOpen};
 ghost use Rattle.mk_judge_quotes.specs.inner.Editing.{IsTradeLeftOpen, CanJudgeTrade, JudgesEdit};
@@ -20,7 +16,7 @@ ghost use Rattle.mk_judge_quotes.specs.Told.{beyond_told};
 
 use crate::told::beyond_told;
 use mk_judge::{Judged, judge_limits, judge_units};
-use mk_net::limits::MILLION;
+use mk_names::limits::MILLION;
 use mk_quote::{Bounds, SideBounds};
 use mk_reply::Reply;
 

@@ -3,22 +3,14 @@
 
 ghost use Rattle.std.specs.Prelude.{◌≡◌, ℕ, ◌≤◌, ◌↔◌, List, Some, None, All, MatchOption, IsTrue};
 ghost use Rattle.std.specs.Prelude.{option_map, option_copied};
+ghost use Rattle.mk_judge_quotes.specs.Below.{Entry, AllZip, Inside, Market, InsideEach, sides_in};
+ghost use Rattle.mk_judge_quotes.specs.Below.{Judges, HaveTradeRange, given_in, user_number};
+ghost use Rattle.mk_judge_quotes.specs.Below.{IsBounds, IsSpreadTrade, IsSpreadJudged};
+ghost use Rattle.mk_judge_quotes.specs.Below.{IsSpreadJudgedAfresh};
 ghost use Rattle.arrayvec.specs.ArrayVec.{ArrayVec as TheArrayVec};
 ghost use Rattle.mk_net.specs.declared.words.PairText.{PairText};
-ghost use Rattle.mk_exact.specs.History.{Entry};
-ghost use Rattle.std.specs.List.{AllZip};
-ghost use Rattle.mk_exact.specs.Limits.{Inside};
-ghost use Rattle.mk_exact.specs.Market.{Market};
-ghost use Rattle.mk_spread.specs.Bounds.{InsideEach};
-ghost use Rattle.mk_quote.specs.Values.{sides_in};
-ghost use Rattle.mk_judge.specs.Judged.{Judges};
-ghost use Rattle.mk_judge.specs.Distributions.{HaveTradeRange};
-ghost use Rattle.mk_reply.specs.Refusals.{given_in};
 ghost use Rattle.mk_reply.specs.declared.reply.Reply.TheVariants.{Refused};
 ghost use Rattle.mk_reply.specs.declared.refusal.Refusal.TheVariants.{Outside};
-ghost use Rattle.mk_rules.specs.Refusals.{user_number};
-ghost use Rattle.mk_rules.specs.Answers.{IsBounds, IsSpreadTrade};
-ghost use Rattle.mk_rules.specs.Answers.{IsSpreadJudged, IsSpreadJudgedAfresh};
 ghost use Rattle.mk_judge_quotes.specs.Spreading.{AreEachBounds, AreBoundsLeftOpen};
 ghost use Rattle.mk_judge_quotes.specs.Spreading.{IsSpreadLeftOpen};
 ghost use Rattle.mk_judge_quotes.specs.inner.Spreading.{IsSpreadTradeLeftOpen, JudgesSpread};

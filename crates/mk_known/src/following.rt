@@ -2,17 +2,11 @@
 
 ghost use Rattle.std.specs.Prelude.{◌≡◌, ◌++◌, ◌↔◌, true, false, List, Option, option_to_list};
 ghost use Rattle.std.specs.Prelude.{OnOk, OnErr};
-ghost use Rattle.mk_exact.specs.History.{Entry};
+ghost use Rattle.mk_known.specs.Below.{Entry, IsProper, IsSmall, command_of, IsReply, Quotes};
+ghost use Rattle.mk_known.specs.Below.{IsAllowed, entry_of, next_history, next_quotes, OfCommand};
+ghost use Rattle.mk_known.specs.Below.{with_entries, market_after, SuitsNext};
 ghost use Rattle.mk_exact.specs.Market.{Market as TheMarket};
-ghost use Rattle.mk_exact.specs.Proper.{IsProper};
-ghost use Rattle.mk_exact.specs.Weight.{IsSmall};
 ghost use Rattle.mk_command.specs.declared.command.Command.{Command};
-ghost use Rattle.mk_command.specs.Commands.{command_of};
-ghost use Rattle.mk_reply.specs.Replies.{IsReply};
-ghost use Rattle.mk_rules.specs.Quotes.{Quotes};
-ghost use Rattle.mk_rules.specs.Answers.{IsAllowed, entry_of, next_history, next_quotes};
-ghost use Rattle.mk_rules.specs.Transcript.{OfCommand, with_entries, market_after};
-ghost use Rattle.mk_market.specs.Suited.{SuitsNext};
 ghost use Rattle.mk_known.specs.Known.{IsKnown};
 ghost use Rattle.mk_known.specs.inner.Walks.{LeavesWeights};
 

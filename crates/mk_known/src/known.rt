@@ -1,11 +1,8 @@
 //! What an auditor knows of a market beside its history.
 
 ghost use Rattle.std.specs.Prelude.{◌≡◌, Some, option_map, option_copied};
-ghost use Rattle.mk_rules.specs.Quotes.{current_limits, current_bounds};
-ghost use Rattle.mk_rules.specs.Quotes.{same_pair, same_question, same_spread};
-ghost use Rattle.std.specs.Cmp.Lexicographic.{pointwise};
-ghost use Rattle.mk_quote.specs.Questions.{spread_in};
-ghost use Rattle.mk_reply.specs.Refusals.{given_in};
+ghost use Rattle.mk_known.specs.Below.{current_limits, current_bounds, same_pair, same_question};
+ghost use Rattle.mk_known.specs.Below.{same_spread, pointwise, spread_in, given_in};
 ghost use Rattle.mk_known.specs.inner.Givens.{quote_in};
 
 use mk_engine::Engine;

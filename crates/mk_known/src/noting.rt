@@ -1,15 +1,12 @@
 //! Keeping the quotes that are printed.
 
 ghost use Rattle.std.specs.Prelude.{◌≡◌, ◌∷◌, ℕ, List, length, None, OnOk};
-ghost use Rattle.mk_exact.specs.History.{Entry, users, revision};
+ghost use Rattle.mk_known.specs.Below.{Entry, users, revision, command_of, given_in, next_quotes};
+ghost use Rattle.mk_known.specs.Below.{with_limits, with_bounds, question_named, spread_named};
+ghost use Rattle.mk_known.specs.Below.{no_user, no_variable, unknown, twice, names_in, pairs_of};
 ghost use Rattle.mk_exact.specs.Market.{Market as TheMarket};
-ghost use Rattle.mk_command.specs.Commands.{command_of};
 ghost use Rattle.mk_command.specs.declared.command.Command.TheVariants.{User, Limits, Edit};
 ghost use Rattle.mk_command.specs.declared.command.Command.TheVariants.{Bounds, Spread};
-ghost use Rattle.mk_reply.specs.Refusals.{given_in};
-ghost use Rattle.mk_rules.specs.Answers.{next_quotes, with_limits, with_bounds};
-ghost use Rattle.mk_rules.specs.Refusals.{question_named, spread_named, no_user, no_variable};
-ghost use Rattle.mk_rules.specs.Refusals.{unknown, twice, names_in, pairs_of};
 ghost use Rattle.mk_known.specs.Known.{IsKnown};
 ghost use Rattle.mk_known.specs.inner.Noted.{IsNoted};
 

@@ -4,7 +4,7 @@ use crate::market::Market;
 use crate::restoring::RestoreFault;
 use mk_engine::Engine;
 use mk_names::Name;
-use mk_net::limits::MAX_PAYMENTS;
+use mk_names::limits::MAX_PAYMENTS;
 use mk_record::{refuse_paid, refuse_settle};
 use mk_reply::{Payment, Reply};
 use mk_semiring::{MinProd, SumProd};

@@ -1,3 +1,4 @@
+pub mod Below
 pub mod Name
 pub mod Texts
 pub mod Key

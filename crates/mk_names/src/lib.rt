@@ -1,7 +1,8 @@
-//! Names, and the keys of a market file.
+//! Names, the keys of a market file, and how much there may be of each thing in a market.
 #![tactic(auto)]
 
 mod key;
+pub mod limits;
 mod name;
 
 pub use key::Key;

@@ -1,9 +1,8 @@
 //! Names of users, variables and values.
 
 ghost use Rattle.std.specs.Prelude.{◌≡◌, IfSome, IsSome, IsTrue, ◌↔◌};
-ghost use Rattle.std.specs.Cmp.{partial_equiv_from_equiv};
+ghost use Rattle.mk_names.specs.Below.{partial_equiv_from_equiv, list_all};
 ghost use Rattle.std.specs.Hash as fed;
-ghost use Rattle.std.specs.List.{list_all};
 ghost use Rattle.mk_names.specs.Name.{IsName};
 ghost use Rattle.mk_names.specs.Name as name;
 ghost use Rattle.mk_names.specs.Texts.{same_text};

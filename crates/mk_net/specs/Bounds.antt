@@ -1,6 +1,6 @@
 -- How much there may be of each thing in a market: each limit has its name here, and its number in the code.
 use Rattle.std.specs.Prelude.{ℕ, ◌+◌, ◌-◌, ◌^◌, nat_le, if◌then◌else◌}
-use Rattle.mk_net.specs.declared.limits.TheConstants.{
+use Rattle.mk_names.specs.declared.limits.TheConstants.{
   MAX_VARIABLES,
   MAX_VALUES,
   MAX_PARENTS,

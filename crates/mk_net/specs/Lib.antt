@@ -1,3 +1,4 @@
+pub mod Below
 pub mod Bounds
 pub mod Network
 pub mod Asked

@@ -5,8 +5,8 @@ ghost use Rattle.mk_net.specs.Drafts.{drafts_of, draft_of_variable};
 ghost use Rattle.mk_net.specs.Checked.{count_fault, count_at};
 
 use crate::fault::NetFault;
-use crate::limits::MAX_VARIABLES;
 use mk_names::Key;
+use mk_names::limits::MAX_VARIABLES;
 
 /// A variable: its words as texts, its rows as whole numbers.
 #[derive(Debug, Drop)]

@@ -4,8 +4,8 @@ ghost use Rattle.std.specs.Prelude.{◌≡◌, ◌++◌, ◌∷◌, [], ◌⊎�
 ghost use Rattle.mk_net.specs.Bounds.{max_pairs};
 ghost use Rattle.mk_net.specs.Events.{speaks_of, IsEvent};
 
-use crate::limits::MAX_PAIRS;
 use crate::words::Pair;
+use mk_names::limits::MAX_PAIRS;
 use std::marker::Model;
 
 /// A list of at most nine pairs, none of which speaks of another's variable.

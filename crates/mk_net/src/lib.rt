@@ -5,7 +5,6 @@ mod addition;
 mod draft;
 mod event;
 mod fault;
-pub mod limits;
 mod naming;
 mod network;
 mod order;

@@ -1,11 +1,10 @@
 //! The faults of a draft's words: its names, their repeats, and the parents.
 
 ghost use Rattle.std.specs.Prelude.{◌≡◌, ◌<◌, ◌≤◌, length, map, position, string_bytes, IfSome};
-ghost use Rattle.std.specs.List.{list_all, list_any};
+ghost use Rattle.mk_net.specs.Below.{list_all, list_any, same_text};
 ghost use Rattle.mk_names.specs.Name as name;
 ghost use Rattle.mk_net.specs.Drafts.{drafts_of, draft_of_variable};
 ghost use Rattle.mk_net.specs.Firsts.{first_in};
-ghost use Rattle.mk_names.specs.Texts.{same_text};
 ghost use Rattle.mk_net.specs.Checked.{is_before, number_of, has_double, name_at, repeat_at, parent_at};
 
 use crate::draft::{Draft, VariableDraft};

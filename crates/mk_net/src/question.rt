@@ -5,8 +5,8 @@ ghost use Rattle.mk_net.specs.Bounds.{max_condition};
 ghost use Rattle.mk_net.specs.Events.{speaks_of, IsEvent, IsQuestion, pairs_asked};
 
 use crate::event::{Event, speaks_of};
-use crate::limits::MAX_CONDITION;
 use crate::words::Pair;
+use mk_names::limits::MAX_CONDITION;
 use std::marker::Model;
 
 /// A target pair, and a condition of at most eight pairs that does not speak of the target's variable.

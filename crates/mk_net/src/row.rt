@@ -1,12 +1,10 @@
 //! Rows of a question that is added to a market.
 
 ghost use Rattle.std.specs.Prelude.{◌≡◌, ◌<◌, ◌≤◌, ◌++◌, ◌∷◌, ◌↔◌, [], length, IsSome, IfSome};
-ghost use Rattle.std.specs.Cmp.{partial_equiv_from_equiv};
+ghost use Rattle.mk_net.specs.Below.{partial_equiv_from_equiv, same_text, same_text_equiv};
 ghost use Rattle.mk_net.specs.Bounds.{max_values};
-ghost use Rattle.mk_names.specs.Texts.{same_text};
-ghost use Rattle.mk_names.specs.inner.TextLaws.{same_text_equiv};
 
-use crate::limits::MAX_VALUES;
+use mk_names::limits::MAX_VALUES;
 use std::marker::Model;
 
 /// A list of at most sixteen numbers: one for each value of a question, in parts per million.

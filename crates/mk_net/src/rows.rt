@@ -9,7 +9,7 @@ ghost use Rattle.mk_net.specs.inner.Counted.{IsCounted, IsNumbered, HasWidths, H
 
 use crate::draft::{Draft, VariableDraft};
 use crate::fault::NetFault;
-use crate::limits::MILLION;
+use mk_names::limits::MILLION;
 
 /// The greatest share: all of a row.
 const WHOLE: i64 = MILLION as i64;

@@ -1,13 +1,9 @@
 //! The parts of a market with a question more.
 
 ghost use Rattle.std.specs.Prelude.{◌≡◌, ◌≤◌, ℕ, length, IfOk};
-ghost use Rattle.mk_tree.specs.Given.{GivenTree};
-ghost use Rattle.mk_tree.specs.Checked.{IsTreeOf};
-ghost use Rattle.mk_beliefs.specs.Meanings.{weights_of};
-ghost use Rattle.mk_history.specs.Entries.{addition_of};
-ghost use Rattle.mk_replay.specs.Placed.{IsPlaced};
+ghost use Rattle.mk_parts.specs.Below.{GivenTree, IsTreeOf, weights_of, addition_of, IsPlaced};
+ghost use Rattle.mk_parts.specs.Below.{longer_network};
 ghost use Rattle.mk_rules.specs.Additions as rules;
-ghost use Rattle.mk_rules.specs.Additions.{longer_network};
 ghost use Rattle.mk_parts.specs.Adding.{CanFollow, CanRegrow, IsLonger, AreRegrown};
 
 use mk_addition::AddText;
@@ -16,8 +12,8 @@ use mk_assets::Assets;
 use mk_engine::Engine;
 use mk_file::MarketFile;
 use mk_history::AddedQuestion;
+use mk_names::limits::{MAX_CLIQUES, MAX_VARIABLES};
 use mk_net::NoMemory;
-use mk_net::limits::{MAX_CLIQUES, MAX_VARIABLES};
 use mk_record::Journal;
 use mk_replay::{assets_of_each, engine_after, rows_after};
 use mk_semiring::{MinProd, SumProd};

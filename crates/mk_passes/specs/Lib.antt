@@ -1,3 +1,4 @@
+pub mod Below
 pub mod Blank
 pub mod Parts
 pub mod inner

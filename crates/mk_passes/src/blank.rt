@@ -1,15 +1,10 @@
 //! Tables of which nothing is written while each of their cells is 1.
 
 ghost use Rattle.std.specs.Prelude.{◌≡◌, ◌==◌, ◌&&◌, ℕ, ◌+◌, ◌-◌, ◌*◌, ◌<◌, ◌≤◌, List, All, length, replicate, slice_index, vec_len, vec_capacity};
-ghost use Rattle.mk_net.specs.Bounds.{max_clique_cells};
-ghost use Rattle.mk_states.specs.States.{plus_over};
-ghost use Rattle.mk_cell.specs.Cell.{IsCell, Stands, StandsAt};
-ghost use Rattle.mk_cell.specs.Passes.{plus_below};
-ghost use Rattle.mk_scope.specs.Scopes.{LiesIn, cells_in};
-ghost use Rattle.mk_scope.specs.Cells.{cell_in};
+ghost use Rattle.mk_passes.specs.Below.{max_clique_cells, plus_over, IsCell, Stands, StandsAt};
+ghost use Rattle.mk_passes.specs.Below.{plus_below, LiesIn, cells_in, cell_in, runs_of};
 ghost use Rattle.mk_passes.specs.Blank.{one_digits, one_exponent, filled};
 ghost use Rattle.mk_passes.specs.Parts.{AreBlankOrFull, AreHeld, HaveRoom, IsChanged, IsTimesCell, StandListed};
-ghost use Rattle.mk_scope.specs.Runs.{runs_of};
 
 use crate::blocks::{BLOCK, FEW, plus_at, put_sums};
 use crate::columns::{Columns, Lists};

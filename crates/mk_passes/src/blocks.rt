@@ -1,13 +1,10 @@
 //! The plus of chosen cells, by blocks that lie on the stack.
 
 ghost use Rattle.std.specs.Prelude.{◌≡◌, ℕ, ◌+◌, ◌*◌, ◌<◌, ◌≤◌, ◌-◌, List, All, length, slice_index};
-ghost use Rattle.mk_net.specs.Bounds.{max_clique_cells};
-ghost use Rattle.mk_states.specs.States.{plus_over};
-ghost use Rattle.mk_cell.specs.Cell.{AreCells, Stands, StandsAt};
-ghost use Rattle.std.specs.List.{range_with_len};
+ghost use Rattle.mk_passes.specs.Below.{max_clique_cells, plus_over, AreCells, Stands, StandsAt};
+ghost use Rattle.mk_passes.specs.Below.{range_with_len, runs_of};
 ghost use Rattle.mk_passes.specs.Parts.{HaveRoom, StandListed, block_of};
 ghost use Rattle.mk_passes.specs.inner.Made.{AreMade, AreSingles, CanAdd, CanPut, MakesPlus};
-ghost use Rattle.mk_scope.specs.Runs.{runs_of};
 
 use crate::columns::{Columns, Lists};
 use crate::made::{Listed, Maker, put_made};

@@ -1,14 +1,11 @@
 //! The plus of products of a table's cells by those of another, for each cell of a third.
 
 ghost use Rattle.std.specs.Prelude.{◌≡◌, ℕ, ◌+◌, ◌*◌, ◌<◌, ◌≤◌, All, length, slice_index, vec_capacity};
-ghost use Rattle.std.specs.List.{range_with_len};
-ghost use Rattle.mk_net.specs.Bounds.{max_clique_cells};
-ghost use Rattle.mk_scope.specs.Scopes.{LiesIn, cells_in};
-ghost use Rattle.mk_scope.specs.Cells.{cell_in, cells_beside, cells_onto};
+ghost use Rattle.mk_passes.specs.Below.{range_with_len, max_clique_cells, LiesIn, cells_in};
+ghost use Rattle.mk_passes.specs.Below.{cell_in, cells_beside, cells_onto, cells_at};
 ghost use Rattle.mk_passes.specs.Blank.{one_digits, one_exponent, filled};
 ghost use Rattle.mk_passes.specs.Parts.{AreBlankOrFull, AreHeld, HaveRoom, MakesPlusOfPairs};
 ghost use Rattle.mk_passes.specs.inner.Made.{AreBlank, AreMade, AreWritten, CanMultiply, CanPut, MakesProducts};
-ghost use Rattle.mk_scope.specs.Runs.{cells_at};
 
 use crate::blank::{fill, plus_of_each};
 use crate::columns::{Columns, Lists};

@@ -1,15 +1,12 @@
 //! What a cell picks: a share in the rows of a variable, and the units of a trade.
 
 ghost use Rattle.std.specs.Prelude.{◌≡◌, ◌<◌, ◌≤◌, nat_le, if◌then◌else◌, length, All, slice_index};
-ghost use Rattle.mk_net.specs.Network.{sizes};
-ghost use Rattle.mk_net.specs.Named.{variable_at};
-ghost use Rattle.mk_sums.specs.There.{row_there, share_there};
-ghost use Rattle.mk_scope.specs.Scopes.{HasSized, cells_in};
-ghost use Rattle.mk_scope.specs.Cells.{values_at};
+ghost use Rattle.mk_passes.specs.Below.{sizes, variable_at, row_there, share_there, HasSized};
+ghost use Rattle.mk_passes.specs.Below.{cells_in, values_at};
 ghost use Rattle.mk_passes.specs.Parts.{AreUnitCells};
 
 use mk_cell::Cell;
-use mk_net::limits::RATIO_PLACES;
+use mk_names::limits::RATIO_PLACES;
 use mk_net::{Network, Ratio};
 use mk_scope::Scope;
 

@@ -1,12 +1,10 @@
 //! The plus of the products of chosen cells by a message's cells, by blocks that lie on the stack.
 
 ghost use Rattle.std.specs.Prelude.{◌≡◌, ℕ, ◌+◌, ◌*◌, ◌<◌, ◌≤◌, All, length, slice_index};
-ghost use Rattle.mk_net.specs.Bounds.{max_clique_cells};
-ghost use Rattle.mk_states.specs.States.{plus_over};
-ghost use Rattle.mk_cell.specs.Cell.{AreCells, Stands, StandsAt};
+ghost use Rattle.mk_passes.specs.Below.{max_clique_cells, plus_over, AreCells, Stands, StandsAt};
+ghost use Rattle.mk_passes.specs.Below.{cells_at};
 ghost use Rattle.mk_passes.specs.Blank.{one_digits, one_exponent, filled};
 ghost use Rattle.mk_passes.specs.Parts.{AreBlankOrFull, HaveRoom, IsPlusOfPairs};
-ghost use Rattle.mk_scope.specs.Runs.{cells_at};
 
 use crate::blocks::{BLOCK, FEW, block_of};
 use crate::columns::Columns;

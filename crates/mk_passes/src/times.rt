@@ -1,17 +1,12 @@
 //! What multiplies the cells of a table, by its two arrays.
 
 ghost use Rattle.std.specs.Prelude.{◌≡◌, ℕ, ◌+◌, ◌*◌, ◌<◌, ◌≤◌, ◌==◌, true, false, List, All, map, length, slice_index, slice_set};
-ghost use Rattle.mk_net.specs.Network.{sizes};
-ghost use Rattle.mk_net.specs.Named.{variable_at};
-ghost use Rattle.mk_net.specs.Asked.{ratio_pairs};
-ghost use Rattle.mk_net.specs.Trades.{trade_ratio};
-ghost use Rattle.mk_states.specs.Ratios.{units_of};
-ghost use Rattle.mk_sums.specs.There.{share_there, support_there};
-ghost use Rattle.mk_cell.specs.Cell.{IsCell, Stands};
-ghost use Rattle.mk_scope.specs.Scopes.{LiesIn, HasEvent, HasOneEach, HasSized, Rising, cells_in, has_variable};
-ghost use Rattle.mk_scope.specs.Cells.{values_at, cell_in, cells_where};
+ghost use Rattle.mk_passes.specs.Below.{sizes, variable_at, ratio_pairs, trade_ratio, units_of};
+ghost use Rattle.mk_passes.specs.Below.{share_there, support_there, IsCell, Stands, LiesIn};
+ghost use Rattle.mk_passes.specs.Below.{HasEvent, HasOneEach, HasSized, Rising, cells_in};
+ghost use Rattle.mk_passes.specs.Below.{has_variable, values_at, cell_in, cells_where, IsAmong};
+ghost use Rattle.mk_passes.specs.Below.{IsBetween, IsOfRuns, cells_at, runs_of};
 ghost use Rattle.mk_passes.specs.Parts.{IsFull, HaveRoom, IsTimes, IsTimesCell, IsChanged, IsRestricted};
-ghost use Rattle.mk_scope.specs.Runs.{IsAmong, IsBetween, IsOfRuns, cells_at, runs_of};
 
 use crate::picked::{share_of, support_of, unit_cells};
 use mk_cell::Cell;

@@ -1,16 +1,12 @@
 //! The shape of a flow.
 
 ghost use Rattle.std.specs.Prelude.{◌≡◌, ◌≢◌, ℕ, ◌+◌, ◌-◌, ◌<◌, ◌≤◌, ◌&&◌, ◌==◌, ◌++◌, nat_lt, nat_le, [], length, map, filter, true, if◌then◌else◌, IfOk, IfSome};
-ghost use Rattle.std.specs.List.{range_with_len, list_all, list_any};
+ghost use Rattle.mk_plan.specs.Below.{range_with_len, list_all, list_any, holds, home, holds_event};
+ghost use Rattle.mk_plan.specs.Below.{clique_at, linked_to, AreLinked, link_of, IsTreeOf, LiesIn};
+ghost use Rattle.mk_plan.specs.Below.{is_member};
 ghost use Rattle.mk_net.specs.declared.words.Pair.{Pair};
-ghost use Rattle.mk_tree.specs.Given.{holds, home, holds_event, clique_at};
-ghost use Rattle.mk_sums.specs.Trees.{linked_to};
-ghost use Rattle.mk_tree.specs.Given.{AreLinked, link_of};
-ghost use Rattle.mk_tree.specs.Checked.{IsTreeOf};
-ghost use Rattle.mk_scope.specs.Scopes.{LiesIn};
 ghost use Rattle.mk_plan.specs.Shapes.{IsShapeFor, IsClique, AreNextTo, clique_scope, core_scope, separator_scope, separator_between, are_linked, in_core, neighbours, next_on_way};
 ghost use Rattle.mk_plan.specs.Shapes.{all_scopes, scopes_of, HasEach};
-ghost use Rattle.mk_sets.specs.Sets.{is_member};
 ghost use Rattle.mk_plan.specs.inner.Shaped.{scopes_of_cliques, scopes_of_cores, scopes_of_separators, lists_of_neighbours, AreWays, AreStarts, StartsAt, CanPlaceSeparators, CanPlaceCores, whole_of, places_of, core_places_of, shape_of};
 
 use mk_net::{Event, Network, NoMemory, Pair};

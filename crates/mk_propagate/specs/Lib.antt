@@ -1,3 +1,4 @@
+pub mod Below
 pub mod Placings
 pub mod Flows
 pub mod inner

@@ -1,13 +1,9 @@
 //! All tables of a flow, in one piece.
 
 ghost use Rattle.std.specs.Prelude.{◌≡◌, ◌+◌, ◌-◌, ◌*◌, ◌≤◌, ◌≢◌, true, IfOk, length};
-ghost use Rattle.mk_net.specs.Bounds.{max_clique_cells};
-ghost use Rattle.mk_net.specs.Trades.{trade_ratio};
-ghost use Rattle.mk_enclose.specs.Enclosure.{widest_grade};
-ghost use Rattle.mk_scope.specs.Scopes.{HasEvent, cells_in, has_variable};
-ghost use Rattle.mk_table.specs.Tables.{HasRoom};
-ghost use Rattle.mk_engine.specs.Meaning.{RowsOf, SupportOf};
-ghost use Rattle.mk_tree.specs.Given.{max_tree_cliques};
+ghost use Rattle.mk_propagate.specs.Below.{max_clique_cells, trade_ratio, widest_grade, HasEvent};
+ghost use Rattle.mk_propagate.specs.Below.{cells_in, has_variable, HasRoom, RowsOf, SupportOf};
+ghost use Rattle.mk_propagate.specs.Below.{max_tree_cliques};
 ghost use Rattle.mk_propagate.specs.inner.Boards.{HasClique, HasBoth, table_of, core_of};
 ghost use Rattle.mk_propagate.specs.inner.Boards.{product_of, message_of, places_of, CanSum};
 ghost use Rattle.mk_propagate.specs.inner.Boards.{core_place, product_place, message_place};

@@ -1,12 +1,8 @@
 //! What is placed in a flow.
 
 ghost use Rattle.std.specs.Prelude.{◌≡◌, ◌+◌, List, length, true, IfOk};
-ghost use Rattle.mk_net.specs.Trades.{trade_ratio};
-ghost use Rattle.mk_net.specs.Network.{Variable};
-ghost use Rattle.mk_sums.specs.Trees.{sum_of};
-ghost use Rattle.mk_scope.specs.Scopes.{cells_in};
-ghost use Rattle.mk_engine.specs.Meaning.{RowsOf, SupportOf, RatioOf};
-ghost use Rattle.mk_plan.specs.Shapes.{IsShapeFor, clique_scope};
+ghost use Rattle.mk_propagate.specs.Below.{trade_ratio, Variable, sum_of, cells_in, RowsOf};
+ghost use Rattle.mk_propagate.specs.Below.{SupportOf, RatioOf, IsShapeFor, clique_scope};
 ghost use Rattle.mk_propagate.specs.Placings.{Placing, nothing_placed, with_factor_in, with_pair_in, IsPlacedFactor, IsPlacedPair};
 ghost use Rattle.mk_propagate.specs.Flows.{HasPlaced, CanPlace, Places, KeepsMessages};
 

@@ -1,10 +1,9 @@
 //! Messages.
 
 ghost use Rattle.std.specs.Prelude.{◌≡◌, ℕ, ◌+◌, ◌<◌, length, true, false, None, Some};
-ghost use Rattle.mk_table.specs.Tables.{HasRoom};
+ghost use Rattle.mk_propagate.specs.Below.{HasRoom, IsClique, are_linked, core_scope};
+ghost use Rattle.mk_propagate.specs.Below.{separator_between, neighbours};
 ghost use Rattle.mk_propagate.specs.declared.gathered.Gathered.TheVariants.{Everything};
-ghost use Rattle.mk_plan.specs.Shapes.{IsClique, are_linked, core_scope, separator_between};
-ghost use Rattle.mk_plan.specs.Shapes.{neighbours};
 ghost use Rattle.mk_propagate.specs.Placings.{Placing};
 ghost use Rattle.mk_propagate.specs.Flows.{HasPlaced, AreRightBut, IsRight, CanSend, KeepsTables};
 ghost use Rattle.mk_propagate.specs.Flows.{message_at, counted_on};

@@ -1,10 +1,7 @@
 //! Beliefs, as they are read in a clique.
 
 ghost use Rattle.std.specs.Prelude.{◌≡◌, ◌&&◌, ◌+◌, ◌*◌, ◌^◌, ◌<◌, ◌≤◌, length, true};
-ghost use Rattle.mk_enclose.specs.Enclosure.{widest_grade};
-ghost use Rattle.mk_table.specs.Lists.{table_in};
-ghost use Rattle.mk_scope.specs.Scopes.{HasEvent};
-ghost use Rattle.mk_table.specs.Tables.{HasRoom, is_untouched};
+ghost use Rattle.mk_propagate.specs.Below.{widest_grade, table_in, HasEvent, HasRoom, is_untouched};
 ghost use Rattle.mk_propagate.specs.Placings.{Placing};
 ghost use Rattle.mk_propagate.specs.Flows.{HasPlaced, AreRightInto, CanRead, IsReading};
 ghost use Rattle.mk_propagate.specs.Flows.{KeepsMessages, KeepsTables};

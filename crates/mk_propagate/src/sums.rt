@@ -1,11 +1,7 @@
 //! What is placed in a clique, summed over its core.
 
 ghost use Rattle.std.specs.Prelude.{◌≡◌, ◌+◌, List, true};
-ghost use Rattle.mk_net.specs.Network.{Variable};
-ghost use Rattle.mk_net.specs.Trades.{trade_ratio};
-ghost use Rattle.mk_table.specs.Tables.{HasRoom};
-ghost use Rattle.mk_engine.specs.Meaning.{RatioOf};
-ghost use Rattle.mk_plan.specs.Shapes.{IsShapeFor};
+ghost use Rattle.mk_propagate.specs.Below.{Variable, trade_ratio, HasRoom, RatioOf, IsShapeFor};
 ghost use Rattle.mk_propagate.specs.Placings.{Placing, IsPlacedFactor};
 ghost use Rattle.mk_propagate.specs.Flows.{HasSums};
 ghost use Rattle.mk_propagate.specs.inner.Boards.{CanSumCore, table_of, core_of, with_core};

@@ -1,3 +1,4 @@
+pub mod Below
 pub mod Spans
 pub mod Sides
 pub mod Laws

@@ -1,13 +1,12 @@
 //! Both sides of a question.
 ghost use Rattle.std.specs.Prelude.{◌≡◌, ℕ, ◌-◌, ◌≤◌, MatchOption, IfSome};
-ghost use Rattle.mk_net.specs.Bounds.{million};
-ghost use Rattle.mk_exact.specs.Limits.{IsWithinRange};
+ghost use Rattle.mk_quote.specs.Below.{million, IsWithinRange};
 ghost use Rattle.mk_quote.specs.Sides.{ratio_for};
 ghost use Rattle.mk_quote.specs.Bounds.{hit_side, miss_side, Allows, Limit, limits_for, AreFairAndSolvent, AreRightFor};
 
 use crate::SideBounds;
 use mk_enclose::{Enclosure, Factor};
-use mk_net::limits::MILLION;
+use mk_names::limits::MILLION;
 
 /// Bounds on what decides an edit of a question: the weight of the states where its condition and its target hold, of
 /// those where the condition holds and the target does not, and of both together; and the user's least factor over the

@@ -4,7 +4,7 @@ ghost use Rattle.std.specs.Prelude.{◌≤◌, ◌^◌, ◌<◌};
 use crate::SideBounds;
 use crate::interval::Bound;
 use mk_enclose::Factor;
-use mk_net::limits::MAX_SHARE;
+use mk_names::limits::MAX_SHARE;
 
 /// The most units that a guess begins with. A factor of `2^-6` and more bears fewer.
 const MOST_UNITS: u128 = (1 << 46) - 1;

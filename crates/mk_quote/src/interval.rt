@@ -1,14 +1,13 @@
 //! The shares that serve one side of a question.
 ghost use Rattle.std.specs.Prelude.{◌≡◌, ℕ, ◌-◌, ◌<◌, ◌≤◌, ◌↔◌, min};
 ghost use Rattle.std.specs.Prelude.{IsTrue, MatchOption, IfSome};
-ghost use Rattle.mk_net.specs.Bounds.{number_limit};
-ghost use Rattle.mk_exact.specs.Limits.{Inside, IsWithinRange};
+ghost use Rattle.mk_quote.specs.Below.{number_limit, Inside, IsWithinRange};
 ghost use Rattle.mk_quote.specs.Sides.{ratio_for, Serves, interval_for};
 ghost use Rattle.mk_quote.specs.inner.Reached.{Reaches, HoldsFirst};
 
 use crate::SideBounds;
 use crate::side::bears;
-use mk_net::limits::MILLION;
+use mk_names::limits::MILLION;
 
 /// The least number of units that cannot be written.
 const TOO_MANY: u64 = 1 << 63;

@@ -5,7 +5,7 @@ ghost use Rattle.mk_enclose.specs.Factor.{paid_in, taken_out};
 ghost use Rattle.mk_quote.specs.Sides.{ratio_for, Bears, Serves};
 
 use mk_enclose::{Enclosure, Factor};
-use mk_net::limits::{MILLION, RATIO_UNIT};
+use mk_names::limits::{MILLION, RATIO_UNIT};
 
 /// The parts that a share is given in.
 

@@ -5,7 +5,7 @@ ghost use Rattle.mk_quote.specs.Values.{value_interval, value_ratio};
 
 use crate::{SideBounds, SpreadBounds, SpreadQuestion};
 use arrayvec::ArrayVec;
-use mk_net::limits::RATIO_UNIT;
+use mk_names::limits::RATIO_UNIT;
 
 /// For each value of a variable the least and the greatest share, in parts in a million, that an edit may set: `(0, 0)`
 /// for one that cannot come.

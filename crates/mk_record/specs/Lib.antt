@@ -1,3 +1,4 @@
+pub mod Below
 pub mod Journals
 pub mod Lending
 pub mod Members

@@ -1,15 +1,10 @@
 //! Questions in words, and what they are in the numbers of a network.
 
 ghost use Rattle.std.specs.Prelude.{◌≡◌, ◌≤◌, [], ◌∷◌, ◌++◌, length, if◌then◌else◌, is_none, Some, None, IfOk, IfSome};
-ghost use Rattle.mk_net.specs.Bounds.{max_condition};
-ghost use Rattle.mk_net.specs.Events.{speaks_of};
-ghost use Rattle.mk_net.specs.Firsts.{fault_if, or_else};
-ghost use Rattle.mk_net.specs.Named.{pair_named};
-ghost use Rattle.mk_states.specs.OfNetwork.{IsPairOf, IsQuestionOf};
-ghost use Rattle.mk_spread.specs.Spreads.{IsSpreadOf};
-ghost use Rattle.mk_quote.specs.Questions.{spread_in};
+ghost use Rattle.mk_record.specs.Below.{max_condition, speaks_of, fault_if, or_else, pair_named};
+ghost use Rattle.mk_record.specs.Below.{IsPairOf, IsQuestionOf, IsSpreadOf, spread_in, pairs_of};
+ghost use Rattle.mk_record.specs.Below.{names_in, question_named, spread_named, no_variable, twice};
 ghost use Rattle.mk_rules.specs.Refusals as rules;
-ghost use Rattle.mk_rules.specs.Refusals.{pairs_of, names_in, question_named, spread_named, no_variable, twice};
 ghost use Rattle.mk_reply.specs.declared.refusal.Refusal.TheVariants.{Unknown};
 ghost use Rattle.mk_record.specs.Refused.{refusal_in};
 ghost use Rattle.mk_record.specs.inner.Gathered.{IsGathered};

@@ -2,19 +2,17 @@
 
 ghost use Rattle.std.specs.Prelude.{◌≡◌, ◌+◌, ◌<◌, ◌≤◌, [], ◌∷◌, ◌++◌, false, length, map, IfOk};
 ghost use Rattle.std.specs.Prelude.{take, get_or};
-ghost use Rattle.std.specs.List.{count_by};
-ghost use Rattle.mk_net.specs.Bounds.{max_variables, max_users, max_transfers, max_market_trades};
-ghost use Rattle.mk_net.specs.Trades.{trade_ratio};
-ghost use Rattle.mk_exact.specs.History.{Join, Deposit, Withdraw, Trade, Resolve, Settle, Add};
-ghost use Rattle.mk_exact.specs.History.{users, trades as trades_in, resolutions, additions};
-ghost use Rattle.mk_exact.specs.History.{is_transfer, revision, is_settled};
-ghost use Rattle.mk_history.specs.Entries.{change_of, ends, addition_of};
-ghost use Rattle.mk_history.specs.Histories.{max_additions};
+ghost use Rattle.mk_record.specs.Below.{count_by, max_variables, max_users, max_transfers};
+ghost use Rattle.mk_record.specs.Below.{max_market_trades, trade_ratio, Join, Deposit, Withdraw};
+ghost use Rattle.mk_record.specs.Below.{Trade, Resolve, Settle, Add, users, resolutions, additions};
+ghost use Rattle.mk_record.specs.Below.{is_transfer, revision, is_settled, change_of, ends};
+ghost use Rattle.mk_record.specs.Below.{addition_of, max_additions};
+ghost use Rattle.mk_exact.specs.History.{trades as trades_in};
 ghost use Rattle.mk_rules.specs.Refusals as rules;
 
 use mk_history::{AddedQuestion, Entry, History, Limits, Payout};
 use mk_names::Name;
-use mk_net::limits::MAX_VARIABLES;
+use mk_names::limits::MAX_VARIABLES;
 use mk_net::{NoMemory, Pair, Ratio};
 use std::alloc::Global;
 use std::marker::Model;

@@ -1,17 +1,10 @@
 //! What each command is refused for, first to last.
 
 ghost use Rattle.std.specs.Prelude.{◌≡◌, ◌≤◌, ◌<◌, ℕ, List, [], ◌∷◌, length, true, nat_le, is_none, Some, None, IfOk, IfSome, position};
-ghost use Rattle.std.specs.List.{count_by};
-ghost use Rattle.mk_net.specs.Events.{pairs_asked};
-ghost use Rattle.mk_net.specs.Bounds.{max_transfer_bits, million};
-ghost use Rattle.mk_net.specs.Firsts.{fault_if, first_of};
-ghost use Rattle.mk_net.specs.Named.{pair_named, variable_named};
-ghost use Rattle.mk_net.specs.Network.{Variable};
+ghost use Rattle.mk_record.specs.Below.{count_by, pairs_asked, max_transfer_bits, million};
+ghost use Rattle.mk_record.specs.Below.{fault_if, first_of, pair_named, variable_named, Variable};
+ghost use Rattle.mk_record.specs.Below.{Market, IsPairOf, IsQuestionOf, home, market_of};
 ghost use Rattle.mk_exact.specs.History as history;
-ghost use Rattle.mk_exact.specs.Market.{Market};
-ghost use Rattle.mk_states.specs.OfNetwork.{IsPairOf, IsQuestionOf};
-ghost use Rattle.mk_tree.specs.Given.{home};
-ghost use Rattle.mk_file.specs.MarketOf.{market_of};
 ghost use Rattle.mk_command.specs.declared.command.Command.TheVariants as command;
 ghost use Rattle.mk_rules.specs.Refusals as rules;
 ghost use Rattle.mk_record.specs.Members.{names_of};
@@ -24,7 +17,7 @@ use crate::users::Users;
 use mk_engine::Engine;
 use mk_file::MarketFile;
 use mk_names::Name;
-use mk_net::limits::{MAX_SHARE, MAX_TRANSFER_BITS};
+use mk_names::limits::{MAX_SHARE, MAX_TRANSFER_BITS};
 use mk_net::{Event, Network, Pair, PairText, Question, QuestionText};
 use mk_reply::Refusal;
 use mk_semiring::MinProd;

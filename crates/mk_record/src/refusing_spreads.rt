@@ -1,19 +1,12 @@
 //! What `bounds` and `spread` are refused for, first to last.
 
 ghost use Rattle.std.specs.Prelude.{◌≡◌, ◌≤◌, ◌<◌, ◌-◌, ◌^◌, ℕ, List, [], ◌∷◌, length, sum, Some, None, IfOk};
-ghost use Rattle.arrayvec.specs.ArrayVec.{ArrayVec};
+ghost use Rattle.mk_record.specs.Below.{ArrayVec, max_condition, max_values, million, IsEvent};
+ghost use Rattle.mk_record.specs.Below.{pairs_asked, first_of, variable_named, Variable, asked_of};
+ghost use Rattle.mk_record.specs.Below.{home, market_of, spread_in};
 ghost use Rattle.mk_net.specs.declared.words.PairText.{PairText};
-ghost use Rattle.mk_net.specs.Bounds.{max_condition, max_values, million};
-ghost use Rattle.mk_net.specs.Events.{IsEvent, pairs_asked};
-ghost use Rattle.mk_net.specs.Firsts.{first_of};
-ghost use Rattle.mk_net.specs.Named.{variable_named};
-ghost use Rattle.mk_net.specs.Network.{Variable};
 ghost use Rattle.mk_exact.specs.History as history;
-ghost use Rattle.mk_spread.specs.Spreads.{asked_of};
-ghost use Rattle.mk_tree.specs.Given.{home};
-ghost use Rattle.mk_file.specs.MarketOf.{market_of};
 ghost use Rattle.mk_command.specs.declared.command.Command.TheVariants as command;
-ghost use Rattle.mk_quote.specs.Questions.{spread_in};
 ghost use Rattle.mk_rules.specs.Refusals as rules;
 ghost use Rattle.mk_record.specs.Members.{names_of};
 ghost use Rattle.mk_record.specs.Refused.{refusal_in, IsUser, IsSpreadQuestionFor};
@@ -28,7 +21,7 @@ use crate::users::Users;
 use mk_engine::Engine;
 use mk_file::MarketFile;
 use mk_names::Name;
-use mk_net::limits::{MAX_SHARE, MILLION};
+use mk_names::limits::{MAX_SHARE, MILLION};
 use mk_net::{Event, Network, Pair, PairText};
 use mk_quote::SpreadQuestion;
 use mk_reply::Refusal;

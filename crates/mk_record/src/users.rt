@@ -1,9 +1,7 @@
 //! The users of a market.
 
 ghost use Rattle.std.specs.Prelude.{◌≡◌, ◌<◌, ◌≤◌, [], ◌∷◌, ◌++◌, false, length, position, is_some, Some, IfSome, OnOk, OnErr, slice_get, option_copied};
-ghost use Rattle.std.specs.List.{list_any};
-ghost use Rattle.mk_net.specs.Bounds.{max_users};
-ghost use Rattle.mk_names.specs.Texts.{same_text};
+ghost use Rattle.mk_record.specs.Below.{list_any, max_users, same_text};
 ghost use Rattle.mk_record.specs.Members.{new_member, names_of, assets_of, quotes_of, with_quote};
 
 use crate::last_quote::LastQuote;

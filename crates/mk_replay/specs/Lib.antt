@@ -1,3 +1,4 @@
+pub mod Below
 pub mod Placed
 pub mod Each
 pub mod Known

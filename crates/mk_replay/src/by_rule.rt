@@ -1,23 +1,18 @@
 //! Payments by rule, from the entries of a history alone.
 ghost use Rattle.std.specs.Prelude.{◌≡◌, ◌≤◌, List, [], ◌∷◌, length, map, vec_capacity};
-ghost use Rattle.mk_net.specs.Bounds.{max_variables, max_points_per_bit};
-ghost use Rattle.mk_net.specs.Network.{Variable, IsNetwork, sizes};
-ghost use Rattle.mk_net.specs.Trades.{trade_ratio};
-ghost use Rattle.mk_states.specs.States.{IsState, numbers_below};
-ghost use Rattle.mk_states.specs.Events.{always, holds};
-ghost use Rattle.mk_states.specs.Ratios.{ratio_at};
-ghost use Rattle.mk_exact.specs.History.{Entry as Change, users};
-ghost use Rattle.mk_exact.specs.Proper.{IsProper};
-ghost use Rattle.mk_exact.specs.Weight.{possible_states};
-ghost use Rattle.mk_exact.specs.ByRule.{payment_by_rule, payments_by_rule};
-ghost use Rattle.mk_cash.specs.Dues.{due_payment};
-ghost use Rattle.mk_history.specs.Entries.{change_of, ends};
+ghost use Rattle.mk_replay.specs.Below.{max_variables, max_points_per_bit, Variable, IsNetwork};
+ghost use Rattle.mk_replay.specs.Below.{sizes, trade_ratio, IsState, numbers_below, always, holds};
+ghost use Rattle.mk_replay.specs.Below.{ratio_at, users, IsProper, possible_states};
+ghost use Rattle.mk_replay.specs.Below.{payment_by_rule, payments_by_rule, due_payment, change_of};
+ghost use Rattle.mk_replay.specs.Below.{ends};
+ghost use Rattle.mk_exact.specs.History.{Entry as Change};
 ghost use Rattle.mk_replay.specs.ByRule.{CanBePaid, AreResolved};
 ghost use Rattle.mk_replay.specs.inner.Dues.{no_dues, dues_after, CanTakeDue, value_given};
 
 use arrayvec::ArrayVec;
 use mk_cash::Due;
 use mk_history::{Entry, Payout};
+use mk_names::limits::RATIO_UNIT;
 use mk_net::{Pair, Ratio};
 use mk_record::Journal;
 
@@ -112,7 +107,7 @@ pub fn units_at(ratio: &Ratio, state: &[u32]) -> u64
         let value = state.get(ratio.variable as usize).copied().unwrap_or(0);
         ratio.factors.get(value as usize).copied().unwrap_or(0)
     } else {
-        1 << 40
+        RATIO_UNIT
     }
 }
 

@@ -1,11 +1,7 @@
 //! Engines of a history.
 ghost use Rattle.std.specs.Prelude.{[], IfOk};
-ghost use Rattle.mk_net.specs.Network.{IsNetwork};
-ghost use Rattle.mk_tree.specs.Checked.{IsTreeOf};
-ghost use Rattle.mk_tree.specs.Given.{GivenTree};
-ghost use Rattle.mk_engine.specs.Meaning.{Meaning};
-ghost use Rattle.mk_beliefs.specs.Meanings.{weights_of, rows_of, grown};
-ghost use Rattle.mk_history.specs.Entries.{change_of};
+ghost use Rattle.mk_replay.specs.Below.{IsNetwork, IsTreeOf, GivenTree, Meaning, weights_of};
+ghost use Rattle.mk_replay.specs.Below.{rows_of, grown, change_of};
 ghost use Rattle.mk_replay.specs.Placed.{IsPlaced};
 ghost use Rattle.mk_replay.specs.inner.Taking.{CanTake};
 

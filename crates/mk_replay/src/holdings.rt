@@ -1,11 +1,7 @@
 //! The assets of each user of a history.
 ghost use Rattle.std.specs.Prelude.{◌≡◌, ℕ, ◌≤◌, [], length, IfOk};
-ghost use Rattle.mk_exact.specs.History.{deposited, withdrawn};
-ghost use Rattle.mk_tree.specs.Checked.{IsTreeOf};
-ghost use Rattle.mk_tree.specs.Given.{GivenTree};
-ghost use Rattle.mk_assets.specs.Holdings.{Holding, Holds, IsPlanned, max_bits};
-ghost use Rattle.mk_answers.specs.Open.{holding_of};
-ghost use Rattle.mk_history.specs.Entries.{change_of};
+ghost use Rattle.mk_replay.specs.Below.{deposited, withdrawn, IsTreeOf, GivenTree, Holding, Holds};
+ghost use Rattle.mk_replay.specs.Below.{IsPlanned, max_bits, holding_of, change_of};
 ghost use Rattle.mk_replay.specs.Each.{HoldAll};
 ghost use Rattle.mk_replay.specs.Placed.{IsPlaced};
 ghost use Rattle.mk_replay.specs.inner.Taking.{CanAllTake, CanTakeOwn, HasRoomFor, grown_holding, user_of};

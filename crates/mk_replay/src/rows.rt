@@ -1,9 +1,6 @@
 //! The rows of a network alone, and what is known of them.
 ghost use Rattle.std.specs.Prelude.{◌≡◌, List, IfOk};
-ghost use Rattle.mk_exact.specs.History.{Entry, resolutions};
-ghost use Rattle.mk_tree.specs.Checked.{IsTreeOf};
-ghost use Rattle.mk_engine.specs.Meaning.{Meaning, ArePairsOf};
-ghost use Rattle.mk_beliefs.specs.Meanings.{rows_of};
+ghost use Rattle.mk_replay.specs.Below.{Entry, resolutions, IsTreeOf, Meaning, ArePairsOf, rows_of};
 ghost use Rattle.mk_replay.specs.Known.{CanKnowAll, with_all_known};
 
 use crate::engines::weighed;

@@ -1,11 +1,8 @@
 //! Room for the payments of a settlement.
 
 ghost use Rattle.std.specs.Prelude.{◌≡◌, ◌<◌, ◌≤◌, [], ◌∷◌, ◌++◌, map, length, IfOk};
-ghost use Rattle.mk_net.specs.Bounds.{max_users, max_points_per_bit, number_limit};
-ghost use Rattle.mk_states.specs.States.{numbers_below};
-ghost use Rattle.mk_exact.specs.History.{users};
-ghost use Rattle.mk_exact.specs.ByRule.{payment_by_rule, paid_in_all};
-ghost use Rattle.mk_history.specs.Entries.{ends};
+ghost use Rattle.mk_replay.specs.Below.{max_users, max_points_per_bit, number_limit, numbers_below};
+ghost use Rattle.mk_replay.specs.Below.{users, payment_by_rule, paid_in_all, ends};
 ghost use Rattle.mk_replay.specs.ByRule.{CanBePaid};
 ghost use Rattle.mk_replay.specs.Tills.{room_for};
 

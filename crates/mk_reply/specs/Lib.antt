@@ -1,3 +1,4 @@
+pub mod Below
 pub mod Replies
 pub mod Refusals
 pub mod Reading

@@ -5,8 +5,8 @@ ghost use Rattle.std.specs.Cmp.Lexicographic.{pointwise, lists_per};
 ghost use Rattle.mk_net.specs.Bounds.{max_payments};
 
 use mk_names::Name;
+use mk_names::limits::MAX_PAYMENTS;
 use mk_net::NoMemory;
-use mk_net::limits::MAX_PAYMENTS;
 use std::alloc::Global;
 use std::marker::Model;
 

@@ -1,10 +1,8 @@
 //! Writing a reply.
 
 ghost use Rattle.std.specs.Prelude.{◌≡◌, ◌+◌, ◌*◌, ◌<◌, ◌≤◌, ◌++◌, length, codes, decimal};
-ghost use Rattle.arrayvec.specs.ArrayString.{array_string_len};
-ghost use Rattle.mk_text.specs.Joined.{items_text};
-ghost use Rattle.mk_text.specs.Numbers.{price_text, range_text, limits_text, intervals_text};
-ghost use Rattle.mk_text.specs.Texts.{pair_text};
+ghost use Rattle.mk_reply.specs.Below.{array_string_len, items_text, price_text, range_text};
+ghost use Rattle.mk_reply.specs.Below.{limits_text, intervals_text, pair_text};
 ghost use Rattle.mk_reply.specs.Refusals.{refusal_text, given_in};
 ghost use Rattle.mk_reply.specs.Replies.{reply_text, at_text, payment_text, of_text};
 ghost use Rattle.mk_reply.specs.inner.Kinds.{IsTold};

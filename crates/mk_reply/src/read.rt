@@ -15,8 +15,8 @@ use crate::read_refusal::{long, narrow, refusal};
 use crate::reply::Reply;
 use crate::unread::Unread;
 use mk_names::Name;
+use mk_names::limits::{MAX_PAYMENTS, MAX_USERS};
 use mk_net::NoMemory;
-use mk_net::limits::{MAX_PAYMENTS, MAX_USERS};
 use mk_text::{Item, Reader, intervals, several};
 use std::alloc::Global;
 

@@ -8,7 +8,7 @@ ghost use Rattle.mk_reply.specs.Reading.{read_stale, read_width};
 ghost use Rattle.mk_reply.specs.Reading.{read_spread_out, read_not_added, read_miscounted};
 
 use crate::refusal::Refusal;
-use mk_net::limits::{MAX_USERS, MAX_VARIABLES};
+use mk_names::limits::{MAX_USERS, MAX_VARIABLES};
 use mk_text::{Item, Reader, intervals};
 
 /// What follows the word `refused`.

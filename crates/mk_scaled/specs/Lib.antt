@@ -1,3 +1,4 @@
+pub mod Below
 pub mod Form
 pub mod Range
 pub mod Rounding

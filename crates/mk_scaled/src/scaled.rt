@@ -1,10 +1,7 @@
 //! The number itself.
 ghost use Rattle.std.specs.Prelude.{◌≡◌, ℕ, ◌+◌, ◌-◌, ◌*◌, ◌/◌, ◌^◌, ◌<◌, ◌≤◌, ◌==◌};
-ghost use Rattle.std.specs.Cmp.Rules.{comparing};
-ghost use Rattle.std.specs.Cmp.{partial_order_from_own_ties};
-ghost use Rattle.std.specs.Int.{div_ceil};
-ghost use Rattle.std.specs.Option.{SomeIff};
-ghost use Rattle.std.specs.Ordering.{nat_cmp, as_partial_cmp};
+ghost use Rattle.mk_scaled.specs.Below.{comparing, partial_order_from_own_ties, div_ceil, SomeIff};
+ghost use Rattle.mk_scaled.specs.Below.{nat_cmp, as_partial_cmp};
 ghost use Rattle.std.proofs.Common.{rules};
 ghost use Rattle.mk_scaled.specs.ByRule.{rounded_down, rounded_up, power_by, whole_log};
 ghost use Rattle.mk_scaled.specs.Form.{mantissa_of, exponent_of, IsStored};

@@ -1,3 +1,4 @@
+pub mod Below
 pub mod Scopes
 pub mod Cells
 pub mod Runs

@@ -1,11 +1,8 @@
 //! The scope of a table.
 
 ghost use Rattle.std.specs.Prelude.{◌≡◌, ℕ, ◌+◌, ◌<◌, ◌≤◌, ◌*◌, ◌/◌, ◌%◌, List, All, map, length, slice_index, true, false, IfOk};
-ghost use Rattle.mk_net.specs.Bounds.{max_variables, max_clique_cells, max_values};
-ghost use Rattle.mk_sets.specs.Sets.{is_member};
-ghost use Rattle.mk_net.specs.Network.{sizes, IsNetwork};
-ghost use Rattle.mk_sums.specs.Cells.{keep, cells};
-ghost use Rattle.mk_sums.specs.Joint.{variables};
+ghost use Rattle.mk_scope.specs.Below.{max_variables, max_clique_cells, max_values, is_member};
+ghost use Rattle.mk_scope.specs.Below.{sizes, IsNetwork, keep, cells, variables};
 ghost use Rattle.mk_scope.specs.Scopes.{IsScope, LiesIn, Rising, scope_of, size_in, cells_in, has_variable, HasEvent};
 ghost use Rattle.mk_scope.specs.Cells.{values_at, cells_where, cells_onto};
 ghost use Rattle.mk_scope.specs.inner.Columns.{HaveColumns};

@@ -1,12 +1,10 @@
 //! Cells that are found by strides, without a division.
 
 ghost use Rattle.std.specs.Prelude.{◌≡◌, ℕ, ◌+◌, ◌*◌, ◌<◌, ◌≤◌, true, [], ◌∷◌, ◌++◌, All, map, filter, take, length, max, vec_capacity, Option, IfOk, IfSome, IfNone, ◌==◌, if◌then◌else◌, not};
-ghost use Rattle.mk_net.specs.Bounds.{max_clique_cells};
-ghost use Rattle.mk_states.specs.States.{numbers_below};
-ghost use Rattle.mk_net.specs.Events.{IsEvent};
+ghost use Rattle.mk_scope.specs.Below.{max_clique_cells, numbers_below, IsEvent};
 ghost use Rattle.mk_scope.specs.inner.Strides.{repeated, lets};
 
-use mk_net::limits::MAX_CLIQUE_CELLS;
+use mk_names::limits::MAX_CLIQUE_CELLS;
 use mk_net::{NoMemory, Pair};
 use std::alloc::Global;
 use std::marker::Model;

@@ -1,3 +1,4 @@
+pub mod Below
 pub mod Lawful
 pub mod Least
 pub mod Most

@@ -1,8 +1,6 @@
 //! The value that the semirings share.
 ghost use Rattle.std.specs.Prelude.{◌≡◌, ℕ, ◌+◌, ◌*◌, ◌^◌, ◌<◌, ◌≤◌, IsTrue};
-ghost use Rattle.mk_net.specs.Bounds.{number_limit};
-ghost use Rattle.mk_enclose.specs.Enclosure.{widest_grade};
-ghost use Rattle.mk_cell.specs.Cell.{Stands, IsOwnOf};
+ghost use Rattle.mk_semiring.specs.Below.{number_limit, widest_grade, Stands, IsOwnOf};
 ghost use Rattle.mk_semiring.specs.Held.{HeldEncloses, HasHeldGrade, IsHeldExact, CanTimes};
 
 use mk_cell::Cell;

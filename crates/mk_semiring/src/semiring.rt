@@ -1,11 +1,7 @@
 //! The trait.
 ghost use Rattle.std.specs.Prelude.{◌≡◌, ℕ, ◌+◌, ◌*◌, ◌^◌, ◌<◌, ◌≤◌, length, IsTrue};
-ghost use Rattle.mk_net.specs.Bounds.{number_limit};
-ghost use Rattle.mk_states.specs.Lawful.{Lawful};
-ghost use Rattle.mk_enclose.specs.Enclosure.{widest_grade};
-ghost use Rattle.mk_cell.specs.Cell.{AllStand, AreCells, Stands, IsOwnOf};
-ghost use Rattle.mk_cell.specs.Passes.{plus_below};
-ghost use Rattle.mk_cell.specs.Products.{AreUnrounded, PairsStand};
+ghost use Rattle.mk_semiring.specs.Below.{number_limit, Lawful, widest_grade, AllStand, AreCells};
+ghost use Rattle.mk_semiring.specs.Below.{Stands, IsOwnOf, plus_below, AreUnrounded, PairsStand};
 
 use mk_cell::Cell;
 

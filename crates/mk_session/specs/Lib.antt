@@ -1,3 +1,4 @@
+pub mod Below
 pub mod Texts
 pub mod Passed
 pub mod Transcript

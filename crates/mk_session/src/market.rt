@@ -1,10 +1,7 @@
 //! The market of a run.
 
 ghost use Rattle.std.specs.Prelude.{◌≡◌, [], IfOk};
-ghost use Rattle.mk_tree.specs.Checked.{IsTreeOf};
-ghost use Rattle.mk_file.specs.MarketOf.{market_of};
-ghost use Rattle.mk_rules.specs.Standings.{IsMarket};
-ghost use Rattle.mk_rules.specs.Transcript.{opening};
+ghost use Rattle.mk_session.specs.Below.{IsTreeOf, market_of, IsMarket, opening};
 
 use mk_engine::Engine;
 use mk_file::MarketFile;

@@ -2,10 +2,8 @@
 //! behind.
 
 ghost use Rattle.std.specs.Prelude.{◌≡◌, ◌≢◌, ◌≤◌, ◌++◌, length};
-ghost use Rattle.arrayvec.specs.ArrayString.{array_string_len};
+ghost use Rattle.mk_session.specs.Below.{array_string_len, Market, IsAt};
 ghost use Rattle.mk_file.specs.declared.fault.FileFault.TheVariants.{Memory};
-ghost use Rattle.mk_exact.specs.Market.{Market};
-ghost use Rattle.mk_market.specs.Trading.{IsAt};
 ghost use Rattle.mk_session.specs.Texts.{head_of, ready_line, resumed_line};
 ghost use Rattle.mk_session.specs.Texts.{reply_line, fault_line};
 

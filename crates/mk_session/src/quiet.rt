@@ -1,9 +1,7 @@
 //! A run over inputs that never fail.
 
 ghost use Rattle.std.specs.Prelude.{◌≡◌, ◌≤◌, ◌⊎◌, map, Err, IsOk};
-ghost use Rattle.mk_io.specs.Memory.{named};
-ghost use Rattle.mk_io.specs.Quiet.{file_or_empty};
-ghost use Rattle.mk_file.specs.File.{file_of};
+ghost use Rattle.mk_session.specs.Below.{named, file_or_empty, file_of};
 ghost use Rattle.mk_file.specs.declared.fault.FileFault.{FileFault};
 ghost use Rattle.mk_session.specs.Complete.{AreWithin};
 

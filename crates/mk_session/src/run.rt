@@ -2,14 +2,8 @@
 
 ghost use Rattle.std.specs.Prelude.{◌≡◌, ◌≢◌, ◌+◌, ◌<◌, ◌≤◌, ℕ, List, [], Some, Ok, Err, Result};
 ghost use Rattle.std.specs.Prelude.{length, take, ◌⊎◌, IsOk, IfOk, IfErr, MatchResult};
-ghost use Rattle.mk_io.specs.Outside.{Rose, IsAtEnd, CountsFault};
-ghost use Rattle.mk_file.specs.File.{file_of};
-ghost use Rattle.mk_tree.specs.Checked.{IsTreeOf};
-ghost use Rattle.mk_file.specs.MarketOf.{market_of};
-ghost use Rattle.mk_exact.specs.Market.{Market};
-ghost use Rattle.mk_rules.specs.Standings.{IsMarket};
-ghost use Rattle.mk_rules.specs.Transcript.{opening};
-ghost use Rattle.mk_market.specs.Trading.{IsAt};
+ghost use Rattle.mk_session.specs.Below.{Rose, IsAtEnd, CountsFault, file_of, IsTreeOf, market_of};
+ghost use Rattle.mk_session.specs.Below.{Market, IsMarket, opening, IsAt};
 ghost use Rattle.mk_file.specs.declared.fault.FileFault.{FileFault};
 ghost use Rattle.mk_session.specs.Outcome.{Adds, Ends, Opened, Outcome, IsTurnedAway, HasCauses};
 ghost use Rattle.mk_session.specs.Outcome.{Refuses, IsRunTo, IsHandedBack, status_of};

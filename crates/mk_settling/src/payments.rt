@@ -1,23 +1,17 @@
 //! Payments of a settlement.
 
 ghost use Rattle.std.specs.Prelude.{◌≡◌, ◌<◌, ◌≤◌, ℕ, [], length, map, All};
-ghost use Rattle.mk_net.specs.Bounds.{max_users, max_payments, number_limit};
+ghost use Rattle.mk_settling.specs.Below.{max_users, max_payments, number_limit, payments_by_rule};
+ghost use Rattle.mk_settling.specs.Below.{account_of, market_of, ends_of, IsSafe, ends, names_of};
+ghost use Rattle.mk_settling.specs.Below.{CanBeSettled};
 ghost use Rattle.mk_exact.specs.History.{users as users_of};
-ghost use Rattle.mk_exact.specs.ByRule.{payments_by_rule};
-ghost use Rattle.mk_cash.specs.Accounts.{account_of};
-ghost use Rattle.mk_file.specs.MarketOf.{market_of};
-ghost use Rattle.mk_rules.specs.Answers.{ends_of};
-ghost use Rattle.mk_restore.specs.Laws.{IsSafe};
-ghost use Rattle.mk_history.specs.Entries.{ends};
-ghost use Rattle.mk_record.specs.Members.{names_of};
-ghost use Rattle.mk_record.specs.Refused.{CanBeSettled};
 ghost use Rattle.mk_settling.specs.Paying.{ArePaid, CanBeEntered, IsEntered};
 
 use mk_cash::Ledger;
 use mk_engine::Engine;
 use mk_file::MarketFile;
 use mk_history::Payout;
-use mk_net::limits::MAX_PAYMENTS;
+use mk_names::limits::MAX_PAYMENTS;
 use mk_record::{Journal, Users};
 use mk_replay::{Till, outcome_of};
 use mk_reply::{Payment, Payments};

@@ -2,20 +2,14 @@
 
 ghost use Rattle.std.specs.Prelude.{◌≡◌, ℕ, ◌<◌, ◌≤◌, ◌↔◌, true, length, slice_index};
 ghost use Rattle.std.specs.Prelude.{take, drop};
-ghost use Rattle.mk_net.specs.Network.{sizes};
-ghost use Rattle.mk_net.specs.Trades.{trade_ratio};
-ghost use Rattle.mk_states.specs.States.{IsState};
-ghost use Rattle.mk_states.specs.Ratios.{ratio_at};
-ghost use Rattle.mk_exact.specs.Proper.{IsProper};
-ghost use Rattle.mk_exact.specs.Weight.{IsSmall, weight};
-ghost use Rattle.mk_walk.specs.Walked.{capped};
-ghost use Rattle.mk_history.specs.Entries.{change_of};
+ghost use Rattle.mk_small.specs.Below.{sizes, trade_ratio, IsState, ratio_at, IsProper, IsSmall};
+ghost use Rattle.mk_small.specs.Below.{weight, capped, change_of};
 ghost use Rattle.mk_small.specs.Walks.{times, behind};
 
 use mk_history::Entry;
 use mk_net::{Network, Ratio};
 use mk_record::Journal;
-use mk_walk::{WalkTrade, holds, state_weight};
+use mk_walk::{WalkTrade, state_weight, units_in};
 
 /// What the weights of a small history are less than, together.
 const SMALL: u128 = 1 << 63;
@@ -72,19 +66,7 @@ fn times(entry: &Entry<'_>, state: &[u32]) -> u64
     ensures { result ≡ times (change_of entry.now) state.now }
 {
     match entry {
-        Entry::Trade { ratio, .. } => units_at(ratio, state),
+        Entry::Trade { ratio, .. } => units_in(ratio, state),
         _ => 1,
-    }
-}
-
-/// The units of a ratio in a state.
-fn units_at(ratio: &Ratio, state: &[u32]) -> u64
-    ensures { result ≡ ratio_at (trade_ratio ratio.now) state.now }
-{
-    if holds(ratio.condition.pairs(), state) {
-        let value = state.get(ratio.variable as usize).copied().unwrap_or(0);
-        ratio.factors.get(value as usize).copied().unwrap_or(0)
-    } else {
-        1 << 40
     }
 }

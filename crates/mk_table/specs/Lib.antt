@@ -1,3 +1,4 @@
+pub mod Below
 pub mod Tables
 pub mod Ratios
 pub mod Margins

@@ -2,11 +2,10 @@
 
 ghost use Rattle.std.specs.Prelude.{◌≡◌, ℕ, ◌+◌, ◌<◌, ◌≤◌, ◌++◌, true, List, [], Option, None, Some, length, slice_index, replicate, vec_len, vec_capacity};
 ghost use Rattle.mk_net.specs.declared.words.Pair.{Pair};
-ghost use Rattle.mk_scope.specs.Scopes.{HasEvent, LiesIn, cells_in};
-ghost use Rattle.mk_scope.specs.Cells.{cell_in};
+ghost use Rattle.mk_table.specs.Below.{HasEvent, LiesIn, cells_in, cell_in, max_shift};
+ghost use Rattle.mk_table.specs.Below.{AreBlankOrFull, HaveRoom, IsChanged, IsFull, IsTimesCell};
+ghost use Rattle.mk_table.specs.Below.{one_digits, one_exponent, filled};
 ghost use Rattle.mk_table.specs.Tables.{is_untouched_by};
-ghost use Rattle.mk_passes.specs.Parts.{max_shift, AreBlankOrFull, HaveRoom, IsChanged, IsFull, IsTimesCell};
-ghost use Rattle.mk_passes.specs.Blank.{one_digits, one_exponent, filled};
 ghost use Rattle.mk_table.specs.inner.Touched.{IsBeside, IsEither, IsEitherWithin, IsWithin};
 ghost use Rattle.mk_table.specs.inner.Store.{HasCells, HasRatiosOf, IsBlankFrom, IsNowhere, IsOpen, IsSame, IsStoreOf, IsWrittenFrom, StandsFrom, digits_in, exponents_in, head_in, is_written, no_head, scope_in};
 ghost use Rattle.mk_table.specs.inner.Changes.{Fits, HasMade};
@@ -14,7 +13,7 @@ ghost use Rattle.mk_table.specs.inner.Changes.{Fits, HasMade};
 use crate::changes::Change;
 use crate::scopes::Scopes;
 use crate::touched::{beside, is_untouched_by, put_either_within, put_within, take_either};
-use mk_net::limits::RATIO_PLACES;
+use mk_names::limits::RATIO_PLACES;
 use mk_net::{Event, Pair};
 use mk_passes::{Columns, append_until, one};
 use mk_scope::Places;

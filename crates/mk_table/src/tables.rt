@@ -1,20 +1,15 @@
 //! The tables of an engine.
 
 ghost use Rattle.std.specs.Prelude.{◌≡◌, ◌≢◌, ℕ, ◌+◌, ◌-◌, ◌*◌, ◌<◌, ◌≤◌, ◌==◌, length, true, All, IfOk, if◌then◌else◌, slice_set, slice_index_or, vec_capacity, None, Some};
-ghost use Rattle.mk_net.specs.Named.{variable_at};
-ghost use Rattle.mk_net.specs.Asked.{ratio_pairs};
-ghost use Rattle.mk_net.specs.Bounds.{max_clique_cells};
-ghost use Rattle.mk_net.specs.Trades.{trade_ratio};
-ghost use Rattle.mk_states.specs.States.{plus_over};
-ghost use Rattle.mk_sums.specs.There.{share_there, support_there, ratio_there};
-ghost use Rattle.mk_cell.specs.Cell.{Stands, IsOwnOf};
-ghost use Rattle.mk_scope.specs.Scopes.{HasEvent, HasOneEach, HasSized, cells_in, has_variable};
-ghost use Rattle.mk_scope.specs.Cells.{values_at, cell_in, cells_onto, cells_beside, cells_where};
+ghost use Rattle.mk_table.specs.Below.{variable_at, ratio_pairs, max_clique_cells, trade_ratio};
+ghost use Rattle.mk_table.specs.Below.{plus_over, share_there, support_there, ratio_there, Stands};
+ghost use Rattle.mk_table.specs.Below.{IsOwnOf, HasEvent, HasOneEach, HasSized, cells_in};
+ghost use Rattle.mk_table.specs.Below.{has_variable, values_at, cell_in, cells_onto, cells_beside};
+ghost use Rattle.mk_table.specs.Below.{cells_where, IsFull, StandListed};
 ghost use Rattle.mk_table.specs.Tables.{HasNumbers, HasRoom, is_untouched};
 ghost use Rattle.mk_table.specs.Ratios.{KeepsPairs};
 ghost use Rattle.mk_table.specs.Margins.{IsMarginBut};
 ghost use Rattle.mk_table.specs.Lists.{IsOnes, no_scope, table_in};
-ghost use Rattle.mk_passes.specs.Parts.{IsFull, StandListed};
 
 use crate::changes::Change;
 use crate::scopes::Scopes;

@@ -3,9 +3,7 @@
 
 ghost use Rattle.std.specs.Prelude.{◌≡◌, ◌<◌, ◌⊎◌, [], ◌∷◌, ◌++◌, List, length, Option, Some, true, false};
 ghost use Rattle.mk_net.specs.declared.words.Pair.{Pair};
-ghost use Rattle.mk_net.specs.Bounds.{max_pairs};
-ghost use Rattle.mk_net.specs.Events.{speaks_of};
-ghost use Rattle.mk_scope.specs.Scopes.{HasEvent, has_variable};
+ghost use Rattle.mk_table.specs.Below.{max_pairs, speaks_of, HasEvent, has_variable};
 ghost use Rattle.mk_table.specs.Ratios.{has_pair};
 ghost use Rattle.mk_table.specs.Tables.{contradicts, contradicts_pair, is_untouched_by};
 ghost use Rattle.mk_table.specs.inner.Touched.{IsPart, IsEither, IsBeside, IsWithin, IsEitherWithin};

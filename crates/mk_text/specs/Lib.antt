@@ -1,3 +1,4 @@
+pub mod Below
 pub mod Joined
 pub mod Texts
 pub mod Numbers

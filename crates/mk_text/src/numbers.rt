@@ -1,15 +1,14 @@
 //! Numbers as words, and the words of which they are the numbers.
 
 ghost use Rattle.std.specs.Prelude.{◌≡◌, ◌+◌, ◌^◌, ◌<◌, ◌≤◌, ◌++◌, IfSome, Some, decimal};
-ghost use Rattle.std.specs.Str.Parse.{IsNumeral, digits_value};
-ghost use Rattle.arrayvec.specs.ArrayString.{array_string_len};
+ghost use Rattle.mk_text.specs.Below.{IsNumeral, digits_value, array_string_len};
 ghost use Rattle.mk_text.specs.Numbers.{places};
 ghost use Rattle.mk_text.specs.Reading.{number_written};
 
 use crate::writers::put_ten_places;
 use arrayvec::ArrayString;
 use itoa::Buffer;
-use mk_net::limits::PRICE_UNIT;
+use mk_names::limits::PRICE_UNIT;
 use std::str;
 
 /// The number below a limit that has these digits, without leading zeros.

@@ -13,7 +13,7 @@ use crate::numbers::{number_of, ten_places_of};
 use crate::words::word_len;
 use arrayvec::ArrayVec;
 use mk_names::Name;
-use mk_net::limits::PRICE_UNIT;
+use mk_names::limits::{MILLION, PRICE_UNIT};
 use mk_net::{PairText, QuestionText};
 use std::marker::Model;
 
@@ -191,7 +191,7 @@ impl<'a> Reader<'a> {
         ensures found { Finds result self.new (read_interval self.old) }
         ensures rest { IsRestOf self.new self.old }
     {
-        let (low, high) = self.range(1_000_000)?;
+        let (low, high) = self.range(MILLION as u64)?;
         if low <= high && (1 <= low || high == 0) {
             Some((low as u32, high as u32))
         } else {
@@ -205,7 +205,7 @@ impl<'a> Reader<'a> {
         ensures found { Finds result self.new (read_two_limits self.old) }
         ensures rest { IsRestOf self.new self.old }
     {
-        let (low, high) = self.range(1_000_000)?;
+        let (low, high) = self.range(MILLION as u64)?;
         if 1 <= low && low <= high {
             Some((low as u32, high as u32))
         } else {

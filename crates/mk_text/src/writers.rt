@@ -2,8 +2,7 @@
 //! it writes, and its clause `growth` says how much of that it takes at most.
 
 ghost use Rattle.std.specs.Prelude.{◌≡◌, ◌+◌, ◌^◌, ◌<◌, ◌≤◌, ◌++◌, length, All, IfSome, option_map, codes, decimal, IsUtf8};
-ghost use Rattle.arrayvec.specs.ArrayString.{array_string_len};
-ghost use Rattle.mk_net.specs.Bounds.{max_values};
+ghost use Rattle.mk_text.specs.Below.{array_string_len, max_values};
 ghost use Rattle.mk_text.specs.Joined.{items_text, spaced, AreSeveral};
 ghost use Rattle.mk_text.specs.Numbers.{places, IsShort, price_text, range_text, limits_text, interval_text, intervals_text};
 ghost use Rattle.mk_text.specs.Numbers.{prices_text, ends_text};
@@ -12,7 +11,7 @@ ghost use Rattle.mk_text.specs.Texts.{pair_text, condition_text, question_text};
 use arrayvec::ArrayString;
 use itoa::Buffer;
 use mk_names::Name;
-use mk_net::limits::PRICE_UNIT;
+use mk_names::limits::PRICE_UNIT;
 use mk_net::{PairText, QuestionText};
 use std::str;
 

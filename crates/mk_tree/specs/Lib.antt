@@ -1,3 +1,4 @@
+pub mod Below
 pub mod Given
 pub mod Tests
 pub mod Checked

@@ -2,16 +2,15 @@
 
 ghost use Rattle.std.specs.Prelude.{◌≡◌, ℕ, ◌+◌, ◌<◌, ◌≤◌, ◌↔◌, List, length, not, true, Some};
 ghost use Rattle.std.specs.Prelude.{None, nat_le, if◌then◌else◌, All, sum_by};
-ghost use Rattle.mk_net.specs.Bounds.{max_clique_cells, max_cells};
-ghost use Rattle.mk_sets.specs.Sets.{is_member, IsSubset};
-ghost use Rattle.mk_net.specs.Network.{Variable, IsNetwork};
+ghost use Rattle.mk_tree.specs.Below.{max_clique_cells, max_cells, is_member, IsSubset, Variable};
+ghost use Rattle.mk_tree.specs.Below.{IsNetwork};
 ghost use Rattle.mk_tree.specs.Given.{AreLinked, AreOfNetwork};
 ghost use Rattle.mk_tree.specs.Tests.{holds_family, is_covered, are_connected, cells_of, first_failing, first_too_large, tree_fault};
 ghost use Rattle.mk_tree.specs.inner.Tops.{is_top};
 
 use crate::fault::TreeFault;
+use mk_names::limits::{MAX_CELLS, MAX_CLIQUE_CELLS};
 use mk_net::Network;
-use mk_net::limits::{MAX_CELLS, MAX_CLIQUE_CELLS};
 use mk_sets::VarSet;
 
 /// The first fault of a tree.

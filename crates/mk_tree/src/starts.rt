@@ -2,13 +2,12 @@
 
 ghost use Rattle.std.specs.Prelude.{◌≡◌, ℕ, ◌<◌, ◌≤◌, List, length, slice_index, position, IfOk};
 ghost use Rattle.std.specs.Prelude.{IfSome, if◌then◌else◌};
-ghost use Rattle.mk_sets.specs.Sets.{is_member};
-ghost use Rattle.mk_net.specs.Bounds.{max_variables};
+ghost use Rattle.mk_tree.specs.Below.{is_member, max_variables};
 ghost use Rattle.mk_tree.specs.Given.{max_tree_cliques, holds_event};
 ghost use Rattle.mk_tree.specs.inner.Starts.{AreStarts, event_start};
 
+use mk_names::limits::MAX_VARIABLES;
 use mk_net::Pair;
-use mk_net::limits::MAX_VARIABLES;
 use mk_sets::VarSet;
 use std::alloc::{AllocError, Global};
 

@@ -1,3 +1,4 @@
+pub mod Below
 pub mod Engines
 pub mod Laws
 pub mod inner

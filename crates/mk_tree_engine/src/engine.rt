@@ -1,21 +1,13 @@
 //! The engine.
 
 ghost use Rattle.std.specs.Prelude.{◌≡◌, ℕ, ◌<◌, ◌≤◌, List, [], ◌∷◌, length, Some, IfOk, ⊤};
-ghost use Rattle.mk_net.specs.Asked.{ratio_pairs};
-ghost use Rattle.mk_net.specs.Bounds.{number_limit};
-ghost use Rattle.mk_net.specs.Trades.{trade_ratio};
+ghost use Rattle.mk_tree_engine.specs.Below.{ratio_pairs, number_limit, trade_ratio, Variable};
+ghost use Rattle.mk_tree_engine.specs.Below.{GivenTree, home, IsTreeOf, IsHeldAt, Meaning, opening};
+ghost use Rattle.mk_tree_engine.specs.Below.{RowsOf, SupportOf, RatioOf, with_factor, with_known};
+ghost use Rattle.mk_tree_engine.specs.Below.{tree_grade, CanWeigh, CanMultiply, CanKnow};
+ghost use Rattle.mk_tree_engine.specs.Below.{CanBelieve, IsBelief, whole_sum, IsApart};
+ghost use Rattle.mk_tree_engine.specs.Below.{without_ratios, IsClique, counted_on, reading_grade};
 ghost use Rattle.std.proofs.Common.{sym, subst, le_refl};
-ghost use Rattle.mk_net.specs.Network.{Variable};
-ghost use Rattle.mk_tree.specs.Given.{GivenTree, home};
-ghost use Rattle.mk_tree.specs.Checked.{IsTreeOf};
-ghost use Rattle.mk_tree.specs.Held.{IsHeldAt};
-ghost use Rattle.mk_engine.specs.Meaning.{Meaning, opening, RowsOf, SupportOf, RatioOf};
-ghost use Rattle.mk_engine.specs.Meaning.{with_factor, with_known, tree_grade};
-ghost use Rattle.mk_engine.specs.Beliefs.{CanWeigh, CanMultiply, CanKnow, CanBelieve, IsBelief};
-ghost use Rattle.mk_engine.specs.Meaning.{whole_sum};
-ghost use Rattle.mk_engine.specs.Apart.{IsApart, without_ratios};
-ghost use Rattle.mk_plan.specs.Shapes.{IsClique};
-ghost use Rattle.mk_propagate.specs.Flows.{counted_on, reading_grade};
 ghost use Rattle.mk_tree_engine.specs.Engines.{HasTree, IsPlanFor, MarksAway, ClearsTowards};
 ghost use Rattle.mk_tree_engine.specs.Engines.{IsStarted, KeepsCount, factor_home};
 ghost use Rattle.mk_tree_engine.specs.Engines.{placing_of, stale_number};

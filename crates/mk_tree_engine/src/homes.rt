@@ -1,14 +1,8 @@
 //! Where rows and supports are placed.
 
 ghost use Rattle.std.specs.Prelude.{◌≡◌, ℕ, ◌+◌, ◌<◌, ◌≤◌, ◌&&◌, length, true};
-ghost use Rattle.std.specs.List.{list_all};
-ghost use Rattle.mk_sets.specs.Sets.{is_member};
-ghost use Rattle.mk_net.specs.Network.{IsNetwork};
-ghost use Rattle.mk_tree.specs.Given.{clique_at};
-ghost use Rattle.mk_tree.specs.Tests.{holds_family};
-ghost use Rattle.mk_tree.specs.Checked.{IsTreeOf};
-ghost use Rattle.mk_engine.specs.Meaning.{RowsOf};
-ghost use Rattle.mk_plan.specs.Shapes.{IsClique};
+ghost use Rattle.mk_tree_engine.specs.Below.{list_all, is_member, IsNetwork, clique_at};
+ghost use Rattle.mk_tree_engine.specs.Below.{holds_family, IsTreeOf, RowsOf, IsClique};
 ghost use Rattle.mk_tree_engine.specs.Engines.{factor_home};
 
 use mk_net::Network;

@@ -1,9 +1,7 @@
 //! Messages towards a clique.
 
 ghost use Rattle.std.specs.Prelude.{◌≡◌, ◌≢◌, ℕ, ◌+◌, ◌<◌, ◌≤◌, ◌&&◌, ◌==◌, not, length, true, Some};
-ghost use Rattle.std.specs.Option.{ForSome};
-ghost use Rattle.mk_plan.specs.Shapes.{IsClique, next_on_way};
-ghost use Rattle.mk_propagate.specs.Flows.{CanSend};
+ghost use Rattle.mk_tree_engine.specs.Below.{ForSome, IsClique, next_on_way, CanSend};
 ghost use Rattle.mk_tree_engine.specs.Engines.{MarkedFlow};
 ghost use Rattle.mk_tree_engine.specs.inner.Marks.{marked, marked_stale, AreMarksOf, AreCurrentTowards, stale_marks};
 ghost use Rattle.mk_tree_engine.specs.inner.Passes.{goes_up, goes_down, passed_up, passed_down, AreCollected, CanCollect, CanCollectDown, IsMade};

@@ -1,3 +1,4 @@
+pub mod Below
 pub mod Names
 pub mod Narrow
 pub mod Laws

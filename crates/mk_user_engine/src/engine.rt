@@ -3,15 +3,10 @@
 ghost use Rattle.std.specs.Prelude.{◌≡◌, ℕ, ◌+◌, ◌<◌, ◌≤◌, List, [], ◌∷◌, length, Some, IfOk, true};
 ghost use Rattle.std.specs.Prelude.{false, ⊤};
 ghost use Rattle.std.proofs.Common.{sym, subst, le_refl};
-ghost use Rattle.mk_net.specs.Asked.{ratio_pairs};
-ghost use Rattle.mk_net.specs.Trades.{trade_ratio};
-ghost use Rattle.mk_net.specs.Network.{Variable};
-ghost use Rattle.mk_cell.specs.Least.{least};
-ghost use Rattle.mk_tree.specs.Given.{GivenTree, home};
-ghost use Rattle.mk_tree.specs.Held.{IsHeldAt};
-ghost use Rattle.mk_engine.specs.Meaning.{Meaning, RatioOf, with_factor, with_known, tree_grade};
-ghost use Rattle.mk_engine.specs.Beliefs.{CanKnow, CanMultiply};
-ghost use Rattle.mk_tree_engine.specs.Engines.{HasTree, IsPlanFor};
+ghost use Rattle.mk_user_engine.specs.Below.{ratio_pairs, trade_ratio, Variable, least, GivenTree};
+ghost use Rattle.mk_user_engine.specs.Below.{home, IsHeldAt, Meaning, RatioOf, with_factor};
+ghost use Rattle.mk_user_engine.specs.Below.{with_known, tree_grade, CanKnow, CanMultiply, HasTree};
+ghost use Rattle.mk_user_engine.specs.Below.{IsPlanFor};
 ghost use Rattle.mk_user_engine.specs.NarrowForm.{IsNarrow};
 ghost use Rattle.mk_user_engine.specs.Users.{StandsFor, Begun};
 

@@ -2,16 +2,11 @@
 
 ghost use Rattle.std.specs.Prelude.{◌≡◌, ℕ, ◌<◌, ◌≤◌, ◌⊎◌, ◌||◌, true, false, List, []};
 ghost use Rattle.std.specs.Prelude.{◌∷◌, ◌++◌, All, length};
-ghost use Rattle.std.specs.List.{list_any};
+ghost use Rattle.mk_user_engine.specs.Below.{list_any, number_limit, Stands, least, HeldEncloses};
+ghost use Rattle.mk_user_engine.specs.Below.{HasHeldGrade, IsHeldExact, contradicts, Meaning};
+ghost use Rattle.mk_user_engine.specs.Below.{whole_sum, tree_grade, ArePairsOf, IsBelief, IsApart};
+ghost use Rattle.mk_user_engine.specs.Below.{without_ratios};
 ghost use Rattle.mk_net.specs.declared.words.Pair.{Pair};
-ghost use Rattle.mk_net.specs.Bounds.{number_limit};
-ghost use Rattle.mk_cell.specs.Cell.{Stands};
-ghost use Rattle.mk_cell.specs.Least.{least};
-ghost use Rattle.mk_semiring.specs.Held.{HeldEncloses, HasHeldGrade, IsHeldExact};
-ghost use Rattle.mk_table.specs.Tables.{contradicts};
-ghost use Rattle.mk_engine.specs.Meaning.{Meaning, whole_sum, tree_grade, ArePairsOf};
-ghost use Rattle.mk_engine.specs.Beliefs.{IsBelief};
-ghost use Rattle.mk_engine.specs.Apart.{IsApart, without_ratios};
 ghost use Rattle.mk_user_engine.specs.declared.group.Group.{Group};
 ghost use Rattle.mk_user_engine.specs.declared.narrow.PlacedRatio.{PlacedRatio};
 ghost use Rattle.mk_user_engine.specs.Names.{is_named};

@@ -3,11 +3,8 @@
 ghost use Rattle.std.specs.Prelude.{◌≡◌, ◌≢◌, ℕ, ◌+◌, ◌<◌, ◌≤◌, ◌||◌, ◌==◌, true, false, List, All};
 ghost use Rattle.std.specs.Prelude.{length, []};
 ghost use Rattle.std.specs.Prelude.{IfOk, IfSome, IfNone, vec_capacity};
-ghost use Rattle.std.specs.List.{list_all};
+ghost use Rattle.mk_user_engine.specs.Below.{list_all, Variable, sizes, trade_ratio, HasSized};
 ghost use Rattle.mk_net.specs.declared.words.Pair.{Pair};
-ghost use Rattle.mk_net.specs.Network.{Variable, sizes};
-ghost use Rattle.mk_net.specs.Trades.{trade_ratio};
-ghost use Rattle.mk_scope.specs.Scopes.{HasSized};
 ghost use Rattle.mk_user_engine.specs.Names.{is_named, IsSize};
 ghost use Rattle.mk_user_engine.specs.Grouped.{HasGroups, names, AreJoined, AreTwo, IsFree};
 ghost use Rattle.mk_user_engine.specs.Grouped.{IsNamedAt, HasGathered, KeepsTogether, IsGathered};

@@ -3,12 +3,8 @@
 ghost use Rattle.std.specs.Prelude.{◌≡◌, ℕ, ◌+◌, ◌*◌, ◌<◌, ◌≤◌, ◌&&◌, ◌==◌, true, false, List, All};
 ghost use Rattle.std.specs.Prelude.{length, slice_index, slice_index_or, IfSome, IfNone};
 ghost use Rattle.std.specs.Prelude.{MatchOption};
-ghost use Rattle.std.specs.List.{list_any};
-ghost use Rattle.mk_net.specs.Asked.{IsUnits};
-ghost use Rattle.mk_net.specs.Trades.{trade_ratio};
-ghost use Rattle.mk_states.specs.Ratios.{units_of};
-ghost use Rattle.mk_sums.specs.There.{holds_there};
-ghost use Rattle.mk_cell.specs.Cell.{StandsAt, IsOwnAt};
+ghost use Rattle.mk_user_engine.specs.Below.{list_any, IsUnits, trade_ratio, units_of, holds_there};
+ghost use Rattle.mk_user_engine.specs.Below.{StandsAt, IsOwnAt};
 ghost use Rattle.mk_user_engine.specs.Names.{value_in, agrees, is_named, CanDivide, max_cells};
 ghost use Rattle.mk_user_engine.specs.Narrow.{IsListed, product_of, is_met, HasProduct};
 ghost use Rattle.mk_user_engine.specs.Narrow.{HaveProducts, max_trades};
@@ -16,7 +12,7 @@ ghost use Rattle.mk_user_engine.specs.Narrow.{HaveProducts, max_trades};
 use crate::names::{Named, is_named, value_in};
 use crate::narrow::PlacedRatio;
 use mk_cell::Cell;
-use mk_net::limits::RATIO_PLACES;
+use mk_names::limits::RATIO_PLACES;
 use mk_net::{Pair, Ratio};
 
 /// The places of two in a unit.

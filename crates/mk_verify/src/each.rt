@@ -1,24 +1,12 @@
 //! Judgements of lists of printed numbers, one place after another.
 ghost use Rattle.std.specs.Prelude.{◌≡◌, ℕ, ◌≤◌, List, IfSome, IsSomeAnd, All};
-ghost use Rattle.std.specs.List.{AllZip};
-ghost use Rattle.mk_net.specs.Asked.{Asked};
-ghost use Rattle.mk_net.specs.Bounds.{max_points_per_bit, sharpness};
-ghost use Rattle.mk_text.specs.Numbers.{AreEnds};
-ghost use Rattle.mk_states.specs.Events.{with_target};
-ghost use Rattle.mk_exact.specs.History.{Entry};
-ghost use Rattle.mk_exact.specs.Market.{Market};
-ghost use Rattle.mk_exact.specs.Sound.{IsSound};
-ghost use Rattle.mk_exact.specs.Weight.{IsSmall};
-ghost use Rattle.mk_exact.specs.Prices.{exact_price, CoversPrice};
-ghost use Rattle.mk_spread.specs.Spreads.{SpreadAsked, asked_of};
-ghost use Rattle.mk_spread.specs.Told.{ArePricesOf, IsPositionOf, IsSureOf};
-ghost use Rattle.mk_judge.specs.Judged.{Judges};
-ghost use Rattle.mk_judge.specs.Powers.{HasCashRange};
-ghost use Rattle.mk_judge.specs.Prices.{HavePriceRange};
-ghost use Rattle.mk_answers.specs.Evidence.{AreBoundsOfPrice, IsSureFactor};
-ghost use Rattle.mk_evidence.specs.Grades.{evidence_grade};
+ghost use Rattle.mk_verify.specs.Below.{AllZip, Asked, max_points_per_bit, sharpness, AreEnds};
+ghost use Rattle.mk_verify.specs.Below.{with_target, Entry, Market, IsSound, IsSmall, exact_price};
+ghost use Rattle.mk_verify.specs.Below.{CoversPrice, SpreadAsked, asked_of, ArePricesOf};
+ghost use Rattle.mk_verify.specs.Below.{IsPositionOf, IsSureOf, Judges, HasCashRange};
+ghost use Rattle.mk_verify.specs.Below.{HavePriceRange, AreBoundsOfPrice, IsSureFactor};
+ghost use Rattle.mk_verify.specs.Below.{evidence_grade, TellsSmall};
 ghost use Rattle.mk_verify.specs.Clear.{IsPriceOpen, IsPlaceOpen, IsLeastCashOpen};
-ghost use Rattle.mk_judge_quotes.specs.Small.{TellsSmall};
 ghost use Rattle.mk_verify.specs.inner.Judging.{AreBoundsOfPrices, AreSureFactorsOf};
 
 use mk_enclose::Factor;

@@ -1,14 +1,8 @@
 //! The judge of a reply to any command.
-ghost use Rattle.mk_command.specs.Commands.{command_of};
-ghost use Rattle.mk_reply.specs.Replies.{IsReply};
-ghost use Rattle.mk_rules.specs.Answers.{IsAllowed};
-ghost use Rattle.mk_rules.specs.Standings.{Stands};
-ghost use Rattle.mk_market.specs.Trading.{IsOnlyAsked};
-ghost use Rattle.mk_judge.specs.Judged.{Judges};
+ghost use Rattle.mk_verify.specs.Below.{command_of, IsReply, IsAllowed, Stands, IsOnlyAsked};
+ghost use Rattle.mk_verify.specs.Below.{Judges, TellsSmall, IsKnown};
 ghost use Rattle.mk_verify.specs.Clear.{IsOpen};
 ghost use Rattle.mk_verify.specs.inner.Judging.{IsUnquoted, JudgesReply};
-ghost use Rattle.mk_judge_quotes.specs.Small.{TellsSmall};
-ghost use Rattle.mk_known.specs.Known.{IsKnown};
 
 use crate::numbers::{
     judge_bound_reply, judge_position, judge_price_reply, judge_prices, judge_withdrawal,

@@ -3,10 +3,8 @@ ghost use Rattle.std.specs.Prelude.{◌≡◌, ◌<◌, ℕ, IfSome, IfNone};
 ghost use Rattle.mk_reply.specs.declared.refusal.Refusal.TheVariants.{Short};
 ghost use Rattle.mk_reply.specs.declared.reply.Reply.TheVariants.{Refused};
 ghost use Rattle.mk_command.specs.declared.command.Command.TheVariants as command;
-ghost use Rattle.mk_reply.specs.Replies.{IsReply};
-ghost use Rattle.mk_market.specs.Trading.{IsOnlyAsked};
+ghost use Rattle.mk_verify.specs.Below.{IsReply, IsOnlyAsked, TellsSmall};
 ghost use Rattle.mk_verify.specs.inner.Judging.{JudgesReply};
-ghost use Rattle.mk_judge_quotes.specs.Small.{TellsSmall};
 
 use crate::each::{judge_each_position, judge_each_price};
 use crate::refused::judge_refused;

@@ -1,7 +1,6 @@
 //! Judgements of replies that are decided by their words alone.
 ghost use Rattle.std.specs.Prelude.{◌≡◌, ◌+◌, ◌⊎◌, ◌↔◌, true};
-ghost use Rattle.mk_addition.specs.Adds.{IsAddText};
-ghost use Rattle.mk_exact.specs.History.{revision};
+ghost use Rattle.mk_verify.specs.Below.{IsAddText, revision};
 ghost use Rattle.mk_command.specs.declared.command.Command.TheVariants as command;
 ghost use Rattle.mk_reply.specs.declared.refusal.Refusal.TheVariants.{Memory};
 ghost use Rattle.mk_reply.specs.declared.reply.Reply.TheVariants.{Added, Refused};

@@ -2,8 +2,7 @@
 
 ghost use Rattle.mk_command.specs.declared.command.Command.TheVariants.{Limits, Edit};
 ghost use Rattle.mk_command.specs.declared.command.Command.TheVariants.{Bounds, Spread};
-ghost use Rattle.mk_market.specs.Trading.{IsOnlyAsked};
-ghost use Rattle.mk_known.specs.Known.{IsKnown};
+ghost use Rattle.mk_verify.specs.Below.{IsOnlyAsked, IsKnown};
 ghost use Rattle.mk_verify.specs.inner.Judging.{JudgesQuoted};
 
 use crate::refused::judge_refused;

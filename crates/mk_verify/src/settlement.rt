@@ -1,20 +1,15 @@
 //! Judgements of replies to `settle`.
 ghost use Rattle.std.specs.Prelude.{◌≡◌, ◌+◌, ◌<◌, ◌^◌, ◌↔◌, true, length, map, All};
 ghost use Rattle.std.specs.Prelude.{None, IfSome, IfNone};
-ghost use Rattle.mk_exact.specs.Existing.{HasOutcome};
-ghost use Rattle.mk_exact.specs.History.{revision, users};
+ghost use Rattle.mk_verify.specs.Below.{HasOutcome, revision, users, IsReply, IsListed};
+ghost use Rattle.mk_verify.specs.Below.{settled_by_rule, first_refusal, IsOnlyAsked, Judges};
+ghost use Rattle.mk_verify.specs.Below.{TellsSmall};
 ghost use Rattle.mk_command.specs.declared.command.Command.TheVariants as command;
-ghost use Rattle.mk_reply.specs.Replies.{IsReply, IsPayment as IsReadPayment};
+ghost use Rattle.mk_reply.specs.Replies.{IsPayment as IsReadPayment};
 ghost use Rattle.mk_reply.specs.declared.reply.Reply.TheVariants.{Settled};
-ghost use Rattle.mk_restore.specs.Restoring.{IsListed};
-ghost use Rattle.mk_rules.specs.Answers.{settled_by_rule};
-ghost use Rattle.mk_rules.specs.Refusals.{first_refusal};
-ghost use Rattle.mk_market.specs.Trading.{IsOnlyAsked};
-ghost use Rattle.mk_judge.specs.Judged.{Judges};
 ghost use Rattle.mk_verify.specs.Clear.{IsPaymentOpen};
 ghost use Rattle.mk_verify.specs.inner.Judging.{JudgesReply, InOneState, PaysCash, PayEach};
 ghost use Rattle.mk_verify.specs.inner.Judging.{IsPaymentLeftOpen};
-ghost use Rattle.mk_judge_quotes.specs.Small.{TellsSmall};
 
 use crate::plain::judge_words;
 use crate::refused::judge_refused;

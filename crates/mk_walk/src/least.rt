@@ -1,9 +1,7 @@
 //! The least gain of a user.
 
 ghost use Rattle.std.specs.Prelude.{◌≡◌, List, IfOk, Option, Some, option_map};
-ghost use Rattle.mk_states.specs.Events.{holds};
-ghost use Rattle.mk_exact.specs.History.{Entry};
-ghost use Rattle.mk_exact.specs.Factors.{least_gain, lesser};
+ghost use Rattle.mk_walk.specs.Below.{holds, Entry, least_gain, lesser};
 ghost use Rattle.mk_walk.specs.Walked.{IsHistoryOf, capped, counted_gain};
 
 use crate::states::all_states;

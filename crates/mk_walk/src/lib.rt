@@ -10,4 +10,4 @@ mod weight;
 pub use least::least_gain;
 pub use states::all_states;
 pub use sums::total;
-pub use weight::{WalkTrade, holds, state_gain, state_weight};
+pub use weight::{WalkTrade, state_gain, state_weight, units_in};

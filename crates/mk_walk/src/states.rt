@@ -1,9 +1,7 @@
 //! All states of a network.
 
 ghost use Rattle.std.specs.Prelude.{◌≡◌, ℕ, List, ◌∷◌, ◌++◌, map, flat_map, IfOk};
-ghost use Rattle.mk_net.specs.Network.{sizes};
-ghost use Rattle.mk_states.specs.States.{states, numbers_below};
-ghost use Rattle.mk_states.specs.InitialWeight.{all_states};
+ghost use Rattle.mk_walk.specs.Below.{sizes, states, numbers_below, all_states};
 ghost use Rattle.mk_walk.specs.Lists.{lists};
 
 use crate::weight::can_come;

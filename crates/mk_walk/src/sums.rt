@@ -1,11 +1,7 @@
 //! The total weight of an event.
 
 ghost use Rattle.std.specs.Prelude.{◌≡◌, List, IfOk};
-ghost use Rattle.mk_net.specs.Network.{sizes};
-ghost use Rattle.mk_states.specs.States.{IsState};
-ghost use Rattle.mk_states.specs.Events.{holds};
-ghost use Rattle.mk_exact.specs.History.{Entry};
-ghost use Rattle.mk_exact.specs.Weight.{total};
+ghost use Rattle.mk_walk.specs.Below.{sizes, IsState, holds, Entry, total};
 ghost use Rattle.mk_walk.specs.Walked.{IsHistoryOf, capped, counted_weight};
 
 use crate::states::all_states;

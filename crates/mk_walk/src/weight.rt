@@ -1,18 +1,12 @@
 //! The weight of one state.
 
 ghost use Rattle.std.specs.Prelude.{◌≡◌, ℕ, ◌<◌, ◌≤◌, List, length, slice_index};
-ghost use Rattle.mk_net.specs.Network.{sizes};
-ghost use Rattle.mk_net.specs.Named.{variable_at};
-ghost use Rattle.mk_net.specs.Trades.{trade_ratio};
-ghost use Rattle.mk_states.specs.States.{IsState, product_by, numbers_below};
-ghost use Rattle.mk_states.specs.InitialWeight.{value_at, row_number, entry, initial_weight, can_come};
-ghost use Rattle.mk_states.specs.Events.{holds};
-ghost use Rattle.mk_states.specs.Ratios.{units_of, ratio_at};
-ghost use Rattle.mk_exact.specs.History.{Entry};
-ghost use Rattle.mk_exact.specs.Weight.{weight};
-ghost use Rattle.mk_exact.specs.Factors.{gain};
-ghost use Rattle.mk_walk.specs.Walked.{ratio_of, capped, walked_weight, walked_gain};
+ghost use Rattle.mk_walk.specs.Below.{sizes, variable_at, trade_ratio, IsState, product_by};
+ghost use Rattle.mk_walk.specs.Below.{numbers_below, value_at, row_number, entry, initial_weight};
+ghost use Rattle.mk_walk.specs.Below.{can_come, holds, units_of, ratio_at, Entry, weight, gain};
+ghost use Rattle.mk_walk.specs.Walked.{capped, walked_weight, walked_gain};
 
+use mk_names::limits::RATIO_UNIT;
 use mk_net::{Network, Pair, Ratio};
 
 /// A trade, as the walk reads it.
@@ -29,7 +23,7 @@ fn value_of(state: &[u32], variable: u32) -> u32
 }
 
 /// Whether a state has the value of each pair.
-pub fn holds(pairs: &[Pair], state: &[u32]) -> bool
+fn holds(pairs: &[Pair], state: &[u32]) -> bool
     ensures { result ≡ holds pairs.now state.now }
 {
     for pair in pairs {
@@ -40,13 +34,14 @@ pub fn holds(pairs: &[Pair], state: &[u32]) -> bool
     true
 }
 
-fn ratio(trade: &WalkTrade, state: &[u32]) -> u64
-    ensures { result ≡ ratio_at (ratio_of trade.now) state.now }
+/// The units of a ratio in a state.
+pub fn units_in(ratio: &Ratio, state: &[u32]) -> u64
+    ensures { result ≡ ratio_at (trade_ratio ratio.now) state.now }
 {
-    if holds(trade.ratio.condition.pairs(), state) {
-        units(&trade.ratio, value_of(state, trade.ratio.variable))
+    if holds(ratio.condition.pairs(), state) {
+        units(ratio, value_of(state, ratio.variable))
     } else {
-        1 << 40
+        RATIO_UNIT
     }
 }
 
@@ -106,7 +101,7 @@ pub fn state_weight(network: &Network, trades: &[WalkTrade], state: &[u32]) -> u
 {
     let mut weight = initial(network, state);
     for trade in trades {
-        weight = weight.saturating_mul(ratio(trade, state) as u128);
+        weight = weight.saturating_mul(units_in(&trade.ratio, state) as u128);
     }
     weight
 }
@@ -118,7 +113,7 @@ pub fn state_gain(trades: &[WalkTrade], user: u32, state: &[u32]) -> u128
     let mut gain: u128 = 1;
     for trade in trades {
         if trade.user == user {
-            gain = gain.saturating_mul(ratio(trade, state) as u128);
+            gain = gain.saturating_mul(units_in(&trade.ratio, state) as u128);
         }
     }
     gain

@@ -1,8 +1,7 @@
 //! The network of a draft without a fault.
 
 ghost use Rattle.std.specs.Prelude.{◌≡◌, ◌==◌, ◌≤◌, true, false, None, length, map, string_bytes, All, IfOk, IfErr};
-ghost use Rattle.std.specs.List.{list_all, list_any};
-ghost use Rattle.mk_names.specs.Name.{is_name};
+ghost use Rattle.mk_net.specs.Below.{list_all, list_any, is_name};
 ghost use Rattle.mk_net.specs.Stored.{variable_of, variables_of};
 ghost use Rattle.mk_net.specs.Drafts.{drafts_of, draft_of_variable};
 ghost use Rattle.mk_net.specs.Checked.{first_fault, checked_variable, checked_network, number_of, has_double, share, is_share};

@@ -1,0 +1,6 @@
+-- What clauses of this crate cite of the crates below it.
+pub use Rattle.arrayvec.specs.ArrayString.{array_string_len}
+pub use Rattle.arrayvec.specs.ArrayVec.{array_vec_len}
+pub use Rattle.mk_text.specs.Joined.{items_text}
+pub use Rattle.mk_text.specs.Reading.{Finds, never}
+pub use Rattle.mk_text.specs.Words.{IsRestOf}

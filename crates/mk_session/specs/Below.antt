@@ -1,0 +1,17 @@
+-- What clauses of this crate cite of the crates below it.
+pub use Rattle.std.specs.List.{list_all}
+pub use Rattle.arrayvec.specs.ArrayString.{array_string_len}
+pub use Rattle.mk_command.specs.Commands.{command_of}
+pub use Rattle.mk_disk.specs.Disk.{HasCause}
+pub use Rattle.mk_exact.specs.Market.{Market}
+pub use Rattle.mk_file.specs.File.{file_of}
+pub use Rattle.mk_file.specs.MarketOf.{market_of}
+pub use Rattle.mk_io.specs.Cutting.{fresh, GoesOn}
+pub use Rattle.mk_io.specs.Memory.{named}
+pub use Rattle.mk_io.specs.Outside.{AddsFront, CountsFault, IsAtEnd, Rose}
+pub use Rattle.mk_io.specs.Quiet.{file_or_empty}
+pub use Rattle.mk_io.specs.Stream.{max_line_bytes, max_stream_lines, text}
+pub use Rattle.mk_market.specs.Trading.{IsAt}
+pub use Rattle.mk_rules.specs.Standings.{IsMarket}
+pub use Rattle.mk_rules.specs.Transcript.{opening, Standing}
+pub use Rattle.mk_tree.specs.Checked.{IsTreeOf}
