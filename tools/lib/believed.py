@@ -6,7 +6,7 @@ list is not short by mistake.
 import re
 
 WORD = re.compile(r"[A-Za-z_][A-Za-z0-9_'-]*")
-USE = re.compile(r"^\s*(?:ghost )?use Rattle\.([a-z0-9_]+)\.specs\.([A-Za-z0-9_.]+?)\.\{([^}]*)\};?\s*$")
+USE = re.compile(r"^\s*(?:ghost |pub )?use Rattle\.([a-z0-9_]+)\.specs\.([A-Za-z0-9_.]+?)\.\{([^}]*)\};?\s*$")
 USE_AS = re.compile(r"^\s*(?:ghost )?use Rattle\.([a-z0-9_]+)\.specs\.([A-Za-z0-9_.]+) as ([A-Za-z0-9_]+);?\s*$")
 RUST_USE = re.compile(r"(?m)^(?:pub )?use ((?:crate|mk_[a-z_]+)(?:::[a-z_]+)*)::(\{[^}]*\}|\w+);")
 NAME = r"(?:◌[^\s◌]+◌|[A-Za-z_][A-Za-z0-9_'-]*)"
@@ -34,7 +34,7 @@ def joined(lines):
     """The lines, with an import that stands on several in one."""
     taken = []
     for line in lines:
-        if taken and re.match(r"^\s*(ghost )?use [^{}]*\{[^}]*$", taken[-1]):
+        if taken and re.match(r"^\s*(?:ghost |pub )?use [^{}]*\{[^}]*$", taken[-1]):
             taken[-1] += line.strip()
         else:
             taken.append(line)
@@ -124,7 +124,7 @@ class Module:
     def read(self, lines):
         heads, name, kind, base = [], None, None, 0
         for at, line in enumerate(lines):
-            if re.match(r"^(use |(pub )?mod )", line) or FIXITY.match(line):
+            if re.match(r"^(pub )?(use|mod) ", line) or FIXITY.match(line):
                 continue
             head = HEAD.match(line)
             if PUBLIC.match(line) and not head:

@@ -29,7 +29,7 @@ SECTIONS = [
         "mk_session/specs/Transcript.antt", "mk_session/specs/Passed.antt", "mk_rules/specs/Transcript.antt", "mk_rules/specs/Standings.antt",
         "mk_io/specs/Stream.antt", "mk_io/specs/Cutting.antt"]),
     ("Commands and questions", [
-        "mk_command/src/command.rt", "mk_addition/src/add.rt", "mk_net/src/row.rt", "mk_net/src/words.rt", "mk_names/src/name.rt", "mk_names/specs/Name.antt", "mk_net/src/limits.rt", "mk_net/specs/Bounds.antt",
+        "mk_command/src/command.rt", "mk_addition/src/add.rt", "mk_net/src/row.rt", "mk_net/src/words.rt", "mk_names/src/name.rt", "mk_names/specs/Name.antt", "mk_names/src/limits.rt", "mk_net/specs/Bounds.antt",
         "mk_net/specs/Network.antt", "mk_net/specs/Zeros.antt", "mk_net/specs/Named.antt", "mk_net/specs/Asked.antt", "mk_net/specs/Events.antt",
         "mk_spread/specs/Spreads.antt"]),
     ("Refusals", ["mk_reply/src/refusal.rt", "mk_net/specs/Firsts.antt", "mk_rules/specs/Refusals.antt", "mk_rules/specs/Additions.antt"]),

@@ -1,6 +1,6 @@
 //! How much there may be of each thing in a market, and the parts in which shares, prices and
-//! ratios are counted. Definitions read the limits from here; they write the parts of a price and of
-//! a ratio as powers.
+//! ratios are counted. Definitions read the limits from here; they write the parts of a price, and
+//! those of a ratio, as powers.
 
 /// The most variables of a network.
 pub const MAX_VARIABLES: u32 = 256;
