@@ -6,5 +6,6 @@ pub mod Walking
 pub mod Families
 pub mod Marking
 pub mod Placed
+pub mod Changed
 pub mod Believing
 pub mod Numbers

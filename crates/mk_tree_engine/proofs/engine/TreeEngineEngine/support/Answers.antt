@@ -1,66 +1,49 @@
-use Rattle.std.proofs.Common.{◌≡◌, List, refl, sym, ap, subst, ◌∙◌}
-use Rattle.mk_net.specs.Network.{Variable}
-use Rattle.mk_tree.specs.Given.{GivenTree}
-use Rattle.mk_tree.specs.Checked.{IsTreeOf}
-use Rattle.mk_engine.specs.Meaning.{SupportOf, with_factor}
+use Rattle.std.proofs.Common.{◌≡◌, ap, ◌∙◌}
+use Rattle.mk_engine.specs.Meaning.{SupportOf}
 use Rattle.mk_plan.specs.Shapes.{ShapeOf}
-use Rattle.mk_propagate.specs.Placings.{IsPlacedFactor, with_factor_in}
-use Rattle.mk_tree_engine.specs.Engines.{MarkedFlow, placing_of, factor_home}
+use Rattle.mk_tree_engine.specs.Engines.{placing_of, factor_home}
 use Rattle.mk_tree_engine.specs.inner.Marks.{marked}
-use Rattle.mk_tree_engine.proofs.Placed.{factor_placed, can_place, stands_after, away, is_marked_after, away_now, stands_old}
+use Rattle.mk_tree_engine.proofs.Changed.{tree_of, can_weigh, home_of, home_seen, IsChanged, is_changed, away_from, stands_with_factor}
+use Rattle.mk_tree_engine.proofs.engine.TreeEngineEngine.support.Given.{Over}
+use Rattle.mk_tree_engine.proofs.engine.TreeEngineEngine.support.Goals.{After-tree, After-mark_away}
 use Rattle.mk_tree_engine.proofs.engine.TreeEngineEngine.support.Goals as goal
+
+-- the tree that is read is the engine's
+read : (g : Over) (c : After-tree g) → c.tree.result.now ≡ c.self.inside.flow.shape.tree
+read g c = c.tree.ensures ∙ ap (λ (s : ShapeOf). s.tree) c.shape.ensures
+
+-- what it makes of the engine
+changed : (g : Over) (c : After-mark_away g) → IsChanged c.self.inside.flow c.self.inside.marks c.args.self.now c.times_support.new.self c.mark_away.new.self c.family_home-clique.result
+changed g c =
+    let said = c.mark_away.ensures in
+    is_changed _ _ _ _ _ _ c.shape-2.result.now c.shape-2.ensures c.self.view_is c.self.invariant c.times_support.ensures.kept said.up said.down said.collected
 
 pub family_home-clique-requires-clause-tree : goal.family_home-clique-requires-clause-tree
 family_home-clique-requires-clause-tree g c =
-    let inside = c.self.inside in let old = marked inside.flow inside.marks.up.items inside.marks.down.items in let a = c.requires in
-    let e : c.tree.result.now ≡ inside.flow.shape.tree = c.tree.ensures ∙ ap (λ (s : ShapeOf). s.tree) c.shape.ensures in
-    let h = stands_old g.R.Semiring.plus_of old c.args.self.now a.meaning c.self.view_is a.stands in
-    subst (λ (t : GivenTree). IsTreeOf c.args.net.now t) (sym e) (subst (λ (n : List Variable). IsTreeOf n inside.flow.shape.tree) a.of_network h.placed.shape_is.tree_is)
+    let a = c.requires in let inside = c.self.inside in
+    tree_of g.R.Semiring.plus_of (marked inside.flow inside.marks.up.items inside.marks.down.items) c.args.self.now c.self.view_is a.meaning a.stands c.args.net.now a.of_network
+    c.tree.result.now (read g (goal.at.family_home-clique-requires-clause-tree g c).After-tree)
 
 pub times_support-requires : goal.times_support-requires
 times_support-requires g c =
-    let inside = c.self.inside in let old = marked inside.flow inside.marks.up.items inside.marks.down.items in let a = c.requires in
-    let e : c.tree.result.now ≡ inside.flow.shape.tree = c.tree.ensures ∙ ap (λ (s : ShapeOf). s.tree) c.shape.ensures in
-    let h = stands_old g.R.Semiring.plus_of old c.args.self.now a.meaning c.self.view_is a.stands in
-    let placed : IsPlacedFactor c.args.net.now c.tree.result.now (record { clique = c.family_home-clique.result; factor = SupportOf c.args.variable }) =
-    record { clique_is = c.family_home-clique.ensures.clique; fits = (a.in_range, c.family_home-clique.ensures.fits) } in (
-      placing_of a.meaning,
-      can_place g.R.Semiring.plus_of old a.meaning h a.room,
-      a.of_network,
-      subst (λ (t : GivenTree). IsPlacedFactor c.args.net.now t (record { clique = c.family_home-clique.result; factor = SupportOf c.args.variable })) e placed,
-    )
+    let a = c.requires in let inside = c.self.inside in let home = c.family_home-clique.ensures in
+    can_weigh g.R.Semiring.plus_of (marked inside.flow inside.marks.up.items inside.marks.down.items) c.args.self.now c.self.view_is a.meaning a.stands c.args.net.now a.of_network
+    c.tree.result.now (read g (goal.at.times_support-requires g c).After-tree) a.room c.family_home-clique.result (SupportOf c.args.variable) home.clique (a.in_range, home.fits)
 
 pub invariant_of-self : goal.invariant_of-self
-invariant_of-self g c =
-    let inside = c.self.inside in
-    let said = c.mark_away.ensures in
-    is_marked_after inside.flow c.times_support.new.self inside.marks.up.items inside.marks.down.items c.mark_away.new.self.up.items c.mark_away.new.self.down.items
-    c.family_home-clique.result c.shape-2.result.now c.self.invariant.marks_of (c.shape-2.ensures ∙ c.times_support.ensures.kept.same_shape) said.up said.down c.times_support.ensures.kept.same_shape
-    inside.marks.collected c.mark_away.new.self.collected c.self.invariant.current said.collected
+invariant_of-self g c = (changed g (goal.at.invariant_of-self g c).After-mark_away).is_marked
 
 pub returns-clause-stands : goal.returns-clause-stands
 returns-clause-stands g c = λ m stands e.
-    let plus = g.R.Semiring.plus_of in
-    let inside = c.self.inside in let old = marked inside.flow inside.marks.up.items inside.marks.down.items in
-    let new = marked c.times_support.new.self c.mark_away.new.self.up.items c.mark_away.new.self.down.items in
-    let clique = c.family_home-clique.result in
-    let h = stands_old plus old c.args.self.now m c.self.view_is stands in
-    let t : c.tree.result.now ≡ m.tree = c.tree.ensures ∙ ap (λ (s : ShapeOf). s.tree) c.shape.ensures ∙ h.tree_is in
-    let home : clique ≡ factor_home m.network m.tree (SupportOf c.args.variable) =
-    c.family_home-clique.ensures.home ∙ ap (λ (t : GivenTree). factor_home c.args.net.now t (SupportOf c.args.variable)) t
-    ∙ ap (λ (n : List Variable). factor_home n m.tree (SupportOf c.args.variable)) (sym e) in
-    let moved = away inside.flow c.times_support.new.self inside.marks.up.items inside.marks.down.items c.mark_away.new.self.up.items c.mark_away.new.self.down.items
-    clique c.shape-2.result.now c.self.invariant.marks_of (c.shape-2.ensures ∙ c.times_support.ensures.kept.same_shape) c.mark_away.ensures.up c.mark_away.ensures.down in
-    stands_after plus old m h new (with_factor (SupportOf c.args.variable) m) clique (with_factor_in clique (SupportOf c.args.variable) (placing_of m))
-    (factor_placed m (SupportOf c.args.variable) clique home) refl c.times_support.ensures.kept.same_shape (c.times_support.ensures.places (placing_of m) h.placed e) moved
+    let at = goal.at.returns-clause-stands g c in let plus = g.R.Semiring.plus_of in let inside = c.self.inside in
+    stands_with_factor (changed g at.After-mark_away) plus m stands (SupportOf c.args.variable)
+    (home_of plus (marked inside.flow inside.marks.up.items inside.marks.down.items) c.args.self.now c.self.view_is m stands c.args.net.now e
+    c.tree.result.now (read g at.After-tree) c.family_home-clique.result (SupportOf c.args.variable) c.family_home-clique.ensures.home)
+    (λ has. c.times_support.ensures.places (placing_of m) has e)
 
 pub returns-clause-marks : goal.returns-clause-marks
 returns-clause-marks g c =
-    let inside = c.self.inside in let old = marked inside.flow inside.marks.up.items inside.marks.down.items in
-    let new = marked c.times_support.new.self c.mark_away.new.self.up.items c.mark_away.new.self.down.items in
-    let clique = c.family_home-clique.result in
-    let t : c.tree.result.now ≡ c.args.self.now.flow.shape.tree = c.tree.ensures ∙ ap (λ (s : ShapeOf). s.tree) c.shape.ensures ∙ ap (λ (e : MarkedFlow). e.flow.shape.tree) c.self.view_is in
-    let moved = away inside.flow c.times_support.new.self inside.marks.up.items inside.marks.down.items c.mark_away.new.self.up.items c.mark_away.new.self.down.items
-    clique c.shape-2.result.now c.self.invariant.marks_of (c.shape-2.ensures ∙ c.times_support.ensures.kept.same_shape) c.mark_away.ensures.up c.mark_away.ensures.down in
-    away_now old c.args.self.now new clique (factor_home c.args.net.now c.args.self.now.flow.shape.tree (SupportOf c.args.variable)) c.self.view_is
-    (c.family_home-clique.ensures.home ∙ ap (λ (t : GivenTree). factor_home c.args.net.now t (SupportOf c.args.variable)) t) moved
+    let at = goal.at.returns-clause-marks g c in let inside = c.self.inside in
+    away_from (changed g at.After-mark_away) (factor_home c.args.net.now c.args.self.now.flow.shape.tree (SupportOf c.args.variable))
+    (home_seen (marked inside.flow inside.marks.up.items inside.marks.down.items) c.args.self.now c.self.view_is c.args.net.now
+    c.tree.result.now (read g at.After-tree) c.family_home-clique.result (SupportOf c.args.variable) c.family_home-clique.ensures.home)
