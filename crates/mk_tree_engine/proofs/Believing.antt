@@ -15,6 +15,7 @@ use Rattle.mk_sums.specs.Trees.{sum_of, linked_to}
 use Rattle.mk_sums.proofs.Hops as hops
 use Rattle.mk_tree.specs.Given.{GivenTree, clique_at, link_of, holds_event}
 use Rattle.mk_tree.specs.Tests.{cells_of}
+use Rattle.mk_tree.specs.Held.{IsHeldAt}
 use Rattle.mk_tree.specs.Checked.{IsTreeOf}
 use Rattle.mk_engine.specs.Meaning.{Meaning, Factor, exact_belief, whole_sum, max_grade, tree_grade}
 use Rattle.mk_engine.specs.Beliefs.{IsBelief}
@@ -99,6 +100,18 @@ meaning_same m =
 
 -- ---- the state after the passes
 
+-- the clique that holds an event of the engine as it is seen
+pub held_in : (old now : MarkedFlow) (k : ℕ) (event : List Pair) → old ≡ now → IsHeldAt now.flow.shape.tree k event → IsHeldAt old.flow.shape.tree k event
+held_in old now k event view held = subst (λ (e : MarkedFlow). IsHeldAt e.flow.shape.tree k event) (sym view) held
+
+-- what is read in a clique is a belief of what the engine stands for
+pub record IsRead {V : Type 0} (encloses : V → ℕ → Type 0) (has_grade : V → ℕ → Type 0) (is_exact : V → Type 0)
+    (plus : ℕ → ℕ → ℕ) (m : Meaning) (k : ℕ) (event : List Pair) (value : V) : Type 0 where
+  pub belief : IsBelief encloses has_grade is_exact plus m event value
+  pub apart : IsApart m event → whole_sum (without_ratios m) < number_limit → is_exact value
+  pub graded : has_grade value (tree_grade m)
+  pub sharp : has_grade value (reading_grade m.tree (placing_of m) k)
+
 module _ (plus : ℕ → ℕ → ℕ) (old : MarkedFlow) (marks_of : AreMarksOf old.flow.shape.tree old.stale_up old.stale_down) where
   pub current_of : (m : Meaning) → HasTree plus old m → AreCurrent plus old (placing_of m)
   current_of m h a b l fresh = h.current a b (subst (λ (t : GivenTree). are_linked t a b ≡ true) h.tree_is l) fresh
@@ -178,11 +191,11 @@ module _ (plus : ℕ → ℕ → ℕ) (old : MarkedFlow) (marks_of : AreMarksOf 
           subst (λ (t : GivenTree). IsReading encloses has_grade is_exact plus t (placing_of m) c event r) (ap (λ (s : ShapeOf). s.tree) is.kept.same_shape ∙ h.tree_is)
           (reads (placing_of m) (is.kept.placed (placing_of m) h.placed) (into (placing_of m) h.placed (current_of m h)))
 
-      pub apart_of : IsApart m event → whole_sum (without_ratios m) < number_limit → is_exact r
+      apart_of : IsApart m event → whole_sum (without_ratios m) < number_limit → is_exact r
       apart_of apart small =
           reading.apart (subst (λ (n : Meaning). IsApart n event) (sym (meaning_same m)) apart) (subst (λ (n : Meaning). whole_sum (without_ratios n) < number_limit) (sym (meaning_same m)) small)
 
-      pub sharp : has_grade r (reading_grade m.tree (placing_of m) c)
+      sharp : has_grade r (reading_grade m.tree (placing_of m) c)
       sharp = reading.grade
 
       tree_is : IsTreeOf m.network m.tree
@@ -195,11 +208,11 @@ module _ (plus : ℕ → ℕ → ℕ) (old : MarkedFlow) (marks_of : AreMarksOf 
       as_many = length-map m.factors
           (λ f. record { clique = factor_home m.network m.tree f; factor = f })
 
-      pub graded : has_grade r (tree_grade m)
+      graded : has_grade r (tree_grade m)
       graded = grade_more r (reading_grade m.tree (placing_of m) c) (tree_grade m) sharp
           (within_tree m.tree (placing_of m) tree_is c (length m.factors) clique_is as_many)
 
-      pub belief_of : IsBelief encloses has_grade is_exact plus m event r
+      belief_of : IsBelief encloses has_grade is_exact plus m event r
       belief_of =
           let within = grade_within m.tree (placing_of m) tree_is c (length m.factors) clique_is
           as_many in
@@ -208,3 +221,6 @@ module _ (plus : ℕ → ℕ → ℕ) (old : MarkedFlow) (marks_of : AreMarksOf 
             grade = grade_more r (reading_grade m.tree (placing_of m) c) (length m.factors + max_grade) reading.grade within;
             exact = λ small. reading.exact (subst (λ (n : Meaning). whole_sum n < number_limit) (sym (meaning_same m)) small);
           }
+
+      pub is_read : IsRead encloses has_grade is_exact plus m c event r
+      is_read = record { belief = belief_of; apart = apart_of; graded = graded; sharp = sharp }
