@@ -3,7 +3,7 @@ use Rattle.std.proofs.Common.{◌≡◌, ℕ, ◌+◌, ◌-◌, ◌<◌, Bool, t
 use Rattle.std.proofs.lemmas.Bool.{le-ltb, both_ways}
 use Rattle.mk_sums.specs.Trees.{linked_but}
 use Rattle.mk_sums.proofs.Stale as stale
-use Rattle.mk_tree.specs.Given.{link_of}
+use Rattle.mk_tree.specs.Given.{GivenTree, link_of}
 use Rattle.mk_plan.specs.Shapes.{ShapeOf, IsClique, are_linked, next_on_way}
 use Rattle.mk_propagate.specs.Flows.{CanSend}
 use Rattle.mk_tree_engine.specs.Engines.{MarkedFlow}
@@ -14,6 +14,10 @@ use Rattle.mk_tree_engine.proofs.Collecting.{collected_none, collected_same, col
 none_of : (b : Bool) → b ≡ false → (t : Bool) → (b && t) ≡ false
 none_of true e t = absurd (both_ways true e refl)
 none_of false e t = refl
+
+-- a test of the tree says the same of a flow that kept its shape
+same_way : {new old : ShapeOf} → new ≡ old → (test : GivenTree → Bool) (b : Bool) → test new.tree ≡ b → test old.tree ≡ b
+same_way same test b h = subst (λ (s : ShapeOf). test s.tree ≡ b) same h
 
 module _ (plus : ℕ → ℕ → ℕ) (c : ℕ) (old : MarkedFlow) (could : CanCollect plus old c) where
   pub up_begins : (left : ℕ) → left ≡ length old.flow.shape.tree.cliques → AreCollected plus c (passed_up old.flow.shape.tree c left) old old
@@ -39,13 +43,10 @@ module _ (plus : ℕ → ℕ → ℕ) (c : ℕ) (old : MarkedFlow) (could : CanC
         }
 
     module _ (is : AreCollected plus c (passed_up old.flow.shape.tree c k) old mid) where
-      up_old : (b : Bool) → goes_up mid.flow.shape.tree c k ≡ b → goes_up old.flow.shape.tree c k ≡ b
-      up_old b h = subst (λ (s : ShapeOf). goes_up s.tree c k ≡ b) is.kept.same_shape h
-
       pub up_sends : goes_up mid.flow.shape.tree c k ≡ true → CanSend plus mid.flow k (next_on_way mid.flow.shape.tree k c)
       up_sends h =
           let tree = old.flow.shape.tree in
-          let g = up_old true h in
+          let g = same_way is.kept.same_shape (λ t. goes_up t c k) true h in
           sends (passed_up tree c k) is ((up_parts tree could.marks_of.linked c could.clique_is k g).0)
           (inputs_up tree could.marks_of.linked c could.clique_is k at_k g)
 
@@ -53,7 +54,7 @@ module _ (plus : ℕ → ℕ → ℕ) (c : ℕ) (old : MarkedFlow) (could : CanC
           → AreCollected plus c (passed_up old.flow.shape.tree c (k - 1)) old new
       up_step h new made =
           let tree = old.flow.shape.tree in
-          let g = up_old true h in
+          let g = same_way is.kept.same_shape (λ t. goes_up t c k) true h in
           collected_more plus c old mid (passed_up tree c k) (passed_up tree c (k - 1)) is could.clique_is k at_k ((up_parts tree could.marks_of.linked c could.clique_is k g).0)
           new (next_on_way mid.flow.shape.tree k c) (ap (λ (s : ShapeOf). next_on_way s.tree k c) is.kept.same_shape)
           (none_of (ltb k k) (le-ltb k k (omega arith)) (goes_up tree c k))
@@ -64,16 +65,13 @@ module _ (plus : ℕ → ℕ → ℕ) (c : ℕ) (old : MarkedFlow) (could : CanC
       up_stay h =
           let tree = old.flow.shape.tree in
           collected_same plus c old mid (passed_up tree c k) (passed_up tree c (k - 1)) is
-          (λ j p q. up_same tree could.marks_of.linked c could.clique_is k j at_k.first (up_old false h))
+          (λ j p q. up_same tree could.marks_of.linked c could.clique_is k j at_k.first (same_way is.kept.same_shape (λ t. goes_up t c k) false h))
 
     module _ (is : AreCollected plus c (passed_down old.flow.shape.tree c (k - 1)) old mid) where
-      down_old : (b : Bool) → goes_down mid.flow.shape.tree c k ≡ b → goes_down old.flow.shape.tree c k ≡ b
-      down_old b h = subst (λ (s : ShapeOf). goes_down s.tree c k ≡ b) is.kept.same_shape h
-
       pub down_sends : goes_down mid.flow.shape.tree c k ≡ true → CanSend plus mid.flow k (next_on_way mid.flow.shape.tree k c)
       down_sends h =
           let tree = old.flow.shape.tree in
-          let g = down_old true h in
+          let g = same_way is.kept.same_shape (λ t. goes_down t c k) true h in
           sends (passed_down tree c (k - 1)) is ((down_parts tree could.marks_of.linked c could.clique_is k g).0)
           (inputs_down tree could.marks_of.linked c could.clique_is k at_k g)
 
@@ -81,7 +79,7 @@ module _ (plus : ℕ → ℕ → ℕ) (c : ℕ) (old : MarkedFlow) (could : CanC
           → AreCollected plus c (passed_down old.flow.shape.tree c k) old new
       down_step h new made =
           let tree = old.flow.shape.tree in
-          let g = down_old true h in
+          let g = same_way is.kept.same_shape (λ t. goes_down t c k) true h in
           collected_more plus c old mid (passed_down tree c (k - 1)) (passed_down tree c k) is could.clique_is k at_k ((down_parts tree could.marks_of.linked c could.clique_is k g).0)
           new (next_on_way mid.flow.shape.tree k c) (ap (λ (s : ShapeOf). next_on_way s.tree k c) is.kept.same_shape)
           (ap (λ b. b || (ltb k (k - 1 + 1) && goes_down tree c k)) (not_up tree could.marks_of.linked c could.clique_is k g)
@@ -93,7 +91,7 @@ module _ (plus : ℕ → ℕ → ℕ) (c : ℕ) (old : MarkedFlow) (could : CanC
       down_stay h =
           let tree = old.flow.shape.tree in
           collected_same plus c old mid (passed_down tree c (k - 1)) (passed_down tree c k) is
-          (λ j p q. down_same tree could.marks_of.linked c could.clique_is k j at_k.first (down_old false h))
+          (λ j p q. down_same tree could.marks_of.linked c could.clique_is k j at_k.first (same_way is.kept.same_shape (λ t. goes_down t c k) false h))
 
 -- ---- the second pass, since the first
 
