@@ -2,6 +2,7 @@
 use Rattle.std.proofs.Common.{◌≡◌, ℕ, ◌+◌, ◌-◌, ◌<◌, ◌≤◌, Bool, true, false, cond, not, ◌&&◌, ◌||◌, ◌⊎◌, inl, inr, eqb, ltb, length, refl, sym, ap, subst, ◌∙◌, arith, eq-eqb, ne_eqb}
 use Rattle.std.proofs.Math.Bool.{and-true, or-true, or-false}
 use Rattle.std.proofs.lemmas.Bool.{cases_eq, cases_order, cases_Bool, lt-ltb, le-ltb, and_parts, and_from, both_ways, eqb-true, ltb-true, or_left, or_right, not_from_false, false_from_ne_true, not-true}
+use Rattle.std.proofs.lemmas.Bool.Decides.{same_from_decides, Decides-eqb}
 use Rattle.mk_sums.specs.Trees.{linked_but, linked}
 use Rattle.mk_sums.proofs.Hops as hops
 use Rattle.mk_sums.proofs.Stale as stale
@@ -32,11 +33,7 @@ none_cleared true false d e = refl
 none_cleared false l d e = refl
 
 eqb_sym : (a b : ℕ) → eqb a b ≡ eqb b a
-eqb_sym a b = at (cases_eq a b)
-  where
-    at : ((a ≡ b) ⊎ (a ≡ b → ⊥)) → eqb a b ≡ eqb b a
-    at (inl e) = eq-eqb a b e ∙ sym (eq-eqb b a (sym e))
-    at (inr d) = ne_eqb a b d ∙ sym (ne_eqb b a (λ e. d (sym e)))
+eqb_sym a b = same_from_decides {P = a ≡ b} (eqb a b) (eqb b a) (Decides-eqb a b) (λ e. sym (eqb-true b a e), λ e. eq-eqb b a (sym e))
 
 counted_twice : (old mid new s n more : ℕ) → mid ≡ counted_on old s → new ≡ counted_on mid n → more ≡ s + n → new ≡ counted_on old more
 counted_twice old mid new s n more e f g = omega arith
