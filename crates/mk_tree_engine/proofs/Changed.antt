@@ -1,8 +1,11 @@
 -- One thing more is placed in a clique, and what leads away from the clique is marked: what each of the four changes of an engine leaves.
-use Rattle.std.proofs.Common.{◌≡◌, ℕ, ◌-◌, ◌<◌, List, length, refl, sym, ap, subst, ◌∙◌}
+use Rattle.std.proofs.Common.{◌≡◌, ℕ, ◌-◌, ◌<◌, List, length, Some, refl, sym, ap, subst, ◌∙◌}
 use Rattle.mk_net.specs.Network.{Variable}
-use Rattle.mk_tree.specs.Given.{GivenTree}
+use Rattle.mk_net.specs.declared.words.Pair.{Pair}
+use Rattle.mk_tree.specs.Given.{GivenTree, home}
 use Rattle.mk_tree.specs.Checked.{IsTreeOf}
+use Rattle.mk_tree.specs.Held.{IsHeldAt}
+use Rattle.mk_tree.proofs.Held.{home_is_held}
 use Rattle.mk_engine.specs.Meaning.{Meaning, Factor, with_factor, max_factors}
 use Rattle.mk_plan.specs.Shapes.{ShapeOf, IsClique}
 use Rattle.mk_propagate.specs.Placings.{Placing, IsPlacedFactor, IsFactorIn, with_factor_in}
@@ -42,6 +45,11 @@ pub home_seen : (old now : MarkedFlow) → old ≡ now → (network : List Varia
 home_seen old now view network tree is_tree clique f home =
     home ∙ ap (λ (t : GivenTree). factor_home network t f) (is_tree ∙ ap (λ (e : MarkedFlow). e.flow.shape.tree) view)
 
+-- the home of an event in the engine as it is seen holds it
+pub held_at_home : (old now : MarkedFlow) → old ≡ now → (event : List Pair) (k : ℕ) → home now.flow.shape.tree event ≡ Some k → IsHeldAt old.flow.shape.tree k event
+held_at_home old now view event k e =
+    home_is_held old.flow.shape.tree k event (subst (λ (o : MarkedFlow). home o.flow.shape.tree event ≡ Some k) (sym view) e)
+
 -- an engine of this flow and these marks, that is seen as it is now, has these others once something was placed in a clique
 pub record IsChanged (flow : FlowOf) (marks : Marks) (now : MarkedFlow) (new : FlowOf) (after : Marks) (clique : ℕ) : Type 0 where
   pub view : marked flow marks.up.items marks.down.items ≡ now
@@ -49,14 +57,14 @@ pub record IsChanged (flow : FlowOf) (marks : Marks) (now : MarkedFlow) (new : F
   pub moved : MarksAway (marked flow marks.up.items marks.down.items) (marked new after.up.items after.down.items) clique
   pub is_marked : IsMarked new.shape.tree after.up.items after.down.items after.collected
 
-module _ (flow : FlowOf) (marks : Marks) (now : MarkedFlow) (new : FlowOf) (after : Marks) (clique : ℕ) where
+module _ {flow : FlowOf} {marks : Marks} {now : MarkedFlow} {new : FlowOf} {after : Marks} {clique : ℕ} where
   -- by the shape that is read after it was placed
-  pub is_changed : (shape : ShapeOf) → shape ≡ new.shape → marked flow marks.up.items marks.down.items ≡ now
+  pub is_changed : {shape : ShapeOf} → shape ≡ new.shape → marked flow marks.up.items marks.down.items ≡ now
       → IsMarked flow.shape.tree marks.up.items marks.down.items marks.collected → KeepsMessages flow new
       → AreMarkedUp shape.tree clique (length shape.tree.cliques - 1) marks.up.items after.up.items
       → AreMarkedDown shape.tree clique (length shape.tree.cliques - 1) marks.down.items after.down.items
       → after.collected ≡ kept_in marks.collected clique → IsChanged flow marks now new after clique
-  is_changed shape read view was kept up down collected = record {
+  is_changed {shape} read view was kept up down collected = record {
     view = view;
     same_shape = kept.same_shape;
     moved = away flow new marks.up.items marks.down.items after.up.items after.down.items clique shape was.marks_of (read ∙ kept.same_shape) up down;

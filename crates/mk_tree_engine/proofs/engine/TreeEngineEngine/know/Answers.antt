@@ -1,15 +1,14 @@
-use Rattle.std.proofs.Common.{◌≡◌, [], ◌∷◌, true, Some, refl, sym, subst}
+use Rattle.std.proofs.Common.{◌≡◌, [], ◌∷◌, true, Some, refl, subst}
 use Rattle.std.proofs.lemmas.Bool.{and_parts}
 use Rattle.mk_sets.specs.Sets.{is_member}
 use Rattle.mk_tree.specs.Given.{GivenTree, home, clique_at}
-use Rattle.mk_tree.proofs.Held.{home_is_held}
 use Rattle.mk_engine.specs.Meaning.{with_known}
 use Rattle.mk_propagate.specs.Placings.{with_pair_in}
-use Rattle.mk_tree_engine.specs.Engines.{MarkedFlow, placing_of}
+use Rattle.mk_tree_engine.specs.Engines.{placing_of}
 use Rattle.mk_tree_engine.specs.inner.Marks.{marked}
 use Rattle.mk_tree_engine.proofs.Families.{clique_of, pair_place}
 use Rattle.mk_tree_engine.proofs.Placed.{pair_placed, stands_old}
-use Rattle.mk_tree_engine.proofs.Changed.{IsChanged, is_changed, away_from, stands_with}
+use Rattle.mk_tree_engine.proofs.Changed.{held_at_home, IsChanged, is_changed, away_from, stands_with}
 use Rattle.mk_tree_engine.proofs.engine.TreeEngineEngine.know.Given.{Over}
 use Rattle.mk_tree_engine.proofs.engine.TreeEngineEngine.know.Goals.{After-mark_away}
 use Rattle.mk_tree_engine.proofs.engine.TreeEngineEngine.know.Goals as goal
@@ -17,24 +16,19 @@ use Rattle.mk_tree_engine.proofs.engine.TreeEngineEngine.know.Goals as goal
 -- what it makes of the engine
 changed : (g : Over) (c : After-mark_away g) → IsChanged c.self.inside.flow c.self.inside.marks c.args.self.now c.restrict.new.self c.mark_away.new.self c.args.clique
 changed g c =
-    let said = c.mark_away.ensures in
-    is_changed _ _ _ _ _ _ c.shape.result.now c.shape.ensures c.self.view_is c.self.invariant c.restrict.ensures.kept said.up said.down said.collected
+    is_changed c.shape.ensures c.self.view_is c.self.invariant c.restrict.ensures.kept c.mark_away.ensures.up c.mark_away.ensures.down c.mark_away.ensures.collected
 
 pub restrict-requires : goal.restrict-requires
 restrict-requires g c =
-    let inside = c.self.inside in let old = marked inside.flow inside.marks.up.items
-    inside.marks.down.items in let a = c.requires.range in
-    let pair = c.args.pair in let clique = c.args.clique in let tree = inside.flow.shape.tree in
-    let h = stands_old g.R.Semiring.plus_of old c.args.self.now a.meaning c.self.view_is a.stands in
-    let at_home = subst (λ (e : MarkedFlow). home e.flow.shape.tree (pair ∷ []) ≡ Some clique)
-    (sym c.self.view_is) c.requires.home in
-    let holds = home_is_held tree clique (pair ∷ []) at_home in (
+    let a = c.requires.range in let pair = c.args.pair in let inside = c.self.inside in let tree = inside.flow.shape.tree in
+    let old = marked inside.flow inside.marks.up.items inside.marks.down.items in
+    let holds = held_at_home old c.args.self.now c.self.view_is (pair ∷ []) c.args.clique c.requires.home in (
       placing_of a.meaning,
-      h.placed,
+      (stands_old g.R.Semiring.plus_of old c.args.self.now a.meaning c.self.view_is a.stands).placed,
       record {
-        clique_is = clique_of tree clique (pair ∷ []) holds;
+        clique_is = clique_of tree c.args.clique (pair ∷ []) holds;
         in_range = a.in_range;
-        holds_it = (and_parts (is_member (clique_at tree clique) pair.variable) true holds.held).0;
+        holds_it = (and_parts (is_member (clique_at tree c.args.clique) pair.variable) true holds.held).0;
       },
     )
 

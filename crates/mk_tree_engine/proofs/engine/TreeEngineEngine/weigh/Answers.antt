@@ -15,8 +15,7 @@ read g c = c.tree.ensures ∙ ap (λ (s : ShapeOf). s.tree) c.shape.ensures
 -- what it makes of the engine
 changed : (g : Over) (c : After-mark_away g) → IsChanged c.self.inside.flow c.self.inside.marks c.args.self.now c.times_rows.new.self c.mark_away.new.self c.family_home-clique.result
 changed g c =
-    let said = c.mark_away.ensures in
-    is_changed _ _ _ _ _ _ c.shape-2.result.now c.shape-2.ensures c.self.view_is c.self.invariant c.times_rows.ensures.kept said.up said.down said.collected
+    is_changed c.shape-2.ensures c.self.view_is c.self.invariant c.times_rows.ensures.kept c.mark_away.ensures.up c.mark_away.ensures.down c.mark_away.ensures.collected
 
 pub family_home-clique-requires-clause-tree : goal.family_home-clique-requires-clause-tree
 family_home-clique-requires-clause-tree g c =
