@@ -1,39 +1,31 @@
 -- A belief, from what several groups have.
 use Rattle.std.proofs.Common.{◌≡◌, ◌≢◌, ℕ, ◌+◌, ◌*◌, ◌^◌, ◌<◌, ◌≤◌, Bool, true, false, cond, not}
-use Rattle.std.proofs.Common.{◌&&◌, ◌||◌, ◌⊎◌, inl, inr, eqb}
-use Rattle.std.proofs.Common.{List, [], ◌∷◌, ◌++◌, All, map, filter, length, sum_by, slice_index_or}
+use Rattle.std.proofs.Common.{◌||◌, ◌⊎◌, inl, inr, eqb}
+use Rattle.std.proofs.Common.{List, [], ◌∷◌, ◌++◌, All, length, slice_index_or}
 use Rattle.std.proofs.Common.{refl, sym, ap, subst, ◌∙◌, arith, ne_eqb}
 use Rattle.std.specs.List.{AllByRecursion, list_all, Contains}
-use Rattle.std.proofs.Math.Path.{fun_ext}
 use Rattle.std.proofs.Math.Nat.{le_of_mul-le-mul_right, one-le-pow}
-use Rattle.std.proofs.lemmas.Bool.{cases_Bool, both_ways, eqb-true, and_parts}
-use Rattle.std.proofs.lemmas.List.{length-map}
+use Rattle.std.proofs.lemmas.Bool.{cases_Bool, false_from_ne_true, both_ways, eqb-true, and_parts}
 use Rattle.std.proofs.lemmas.List.Folds.{list_all_at}
 use Rattle.std.proofs.lemmas.List.Sums.{sum_by-cons}
 use Rattle.std.proofs.lemmas.List.Elements.{recursion_from_All, All-from_recursion}
 use Rattle.std.proofs.lemmas.List.Elements.{All-weaker, All-contains}
 use Rattle.mk_net.specs.declared.words.Pair.{Pair}
-use Rattle.mk_sets.specs.Sets.{VarSet}
 use Rattle.mk_net.specs.Bounds.{number_limit}
 use Rattle.mk_net.specs.Events.{AreApart}
 use Rattle.mk_net.specs.Network.{sizes}
-use Rattle.mk_states.specs.States.{states, plus_over, product_by}
-use Rattle.mk_states.specs.InitialWeight.{value_at}
-use Rattle.mk_states.specs.Events.{holds}
-use Rattle.mk_states.proofs.Sums.{plus_over-map, sum_by_is}
+use Rattle.mk_states.specs.States.{product_by}
 use Rattle.mk_sums.specs.There.{holds_there}
 use Rattle.mk_cell.specs.Cell.{StandsAt, IsOwnAt}
 use Rattle.mk_cell.specs.Least.{least}
 use Rattle.mk_cell.specs.inner.Laws.{stands_with_more}
 use Rattle.mk_semiring.specs.declared.held.Held.{Held}
-use Rattle.mk_semiring.specs.Held.{HeldEncloses, HasHeldGrade, IsHeldExact, held_grade_more}
+use Rattle.mk_semiring.specs.Held.{HeldEncloses, HasHeldGrade, IsHeldExact}
 use Rattle.mk_semiring.specs.Least.{least_lawful}
 use Rattle.mk_table.specs.Tables.{contradicts}
 use Rattle.mk_table.proofs.Owned.{own_more}
-use Rattle.mk_tree.specs.Tests.{cells_of}
-use Rattle.mk_tree.proofs.Cells.{cells_positive}
-use Rattle.mk_engine.specs.Meaning.{Meaning, Factor, RatioOf, is_ratio, factor_there, exact_belief}
-use Rattle.mk_engine.specs.Meaning.{whole_sum, max_grade, tree_grade, cells_of_all, ArePairsOf}
+use Rattle.mk_engine.specs.Meaning.{Meaning, Factor, RatioOf, is_ratio, exact_belief}
+use Rattle.mk_engine.specs.Meaning.{whole_sum, tree_grade, ArePairsOf}
 use Rattle.mk_engine.specs.Beliefs.{IsBelief}
 use Rattle.mk_engine.specs.Apart.{IsApart, HasCondition, without_ratios}
 use Rattle.mk_engine.proofs.Apart.{apart_at_most, ratio_count}
@@ -56,6 +48,7 @@ use Rattle.mk_user_engine.specs.Shared.{ratios_of}
 use Rattle.mk_user_engine.specs.LeastShared.{least_in}
 use Rattle.mk_user_engine.specs.GroupBelief.{HasLeastOver, MeetsOne, trades_of}
 use Rattle.mk_user_engine.proofs.BeliefSharing.{belief_shared}
+use Rattle.mk_user_engine.proofs.Believing as narrow
 use Rattle.mk_user_engine.proofs.Coded.{value_below}
 use Rattle.mk_user_engine.proofs.Counting.{counts}
 use Rattle.mk_user_engine.proofs.GroupLeast.{agrees_both}
@@ -77,26 +70,9 @@ each_passes p [] h = tt
 each_passes p (x ∷ xs) h = let parts = and_parts (p x) (list_all p xs) h
     in (parts.0, each_passes p xs parts.1)
 
--- a least value of what passes a test is at most the sum of all
-kept_at_most : {X : Type 0} (f : X → ℕ) (test : X → Bool) (xs : List X)
-    → plus_over least 0 f (filter test xs) ≤ plus_over ◌+◌ 0 f xs
-kept_at_most f test [] = omega arith
-kept_at_most {X} f test (x ∷ xs) = at (test x) (kept_at_most f test xs)
-  where
-    at : (b : Bool) → plus_over least 0 f (filter test xs) ≤ plus_over ◌+◌ 0 f xs
-        → plus_over least 0 f (cond b (x ∷ filter test xs) (filter test xs)) ≤ f x + plus_over ◌+◌
-        0 f xs
-    at true ih = let q = least_lawful.bounded (f x) (plus_over least 0 f (filter test xs))
-        in omega (arith, ih, q)
-    at false ih = omega (arith, ih)
-
 module _ (gs : Groups) (ts : List PlacedRatio) (ks : List Pair) (homes : List ℕ) (m : Meaning)
     (is : AreGrouped gs ts ks homes m)
   where
-    as_many_factors : length m.factors ≡ length ts
-    as_many_factors = ap (λ (fs : List Factor). length fs) is.factors_are
-        ∙ length-map ts (λ (t : PlacedRatio). RatioOf (ratio_in t))
-
     grouped : AllByRecursion (IsGroupedRatio m.network m.tree gs.list.items) ts
     grouped = recursion_from_All (IsGroupedRatio m.network m.tree gs.list.items) ts is.trades
 
@@ -228,21 +204,6 @@ module _ (gs : Groups) (ts : List PlacedRatio) (ks : List Pair) (homes : List �
 
     -- ---- the exact belief, and the sum of all
 
-    at_most_whole : (event : List Pair) → exact_belief least m event ≤ whole_sum m
-    at_most_whole event =
-        let f : List ℕ → ℕ = λ s. product_by (λ (g : (ℕ → ℕ)
-        → ℕ). g (value_at s)) (map (factor_there m.network) m.factors) in
-        let g : List ℕ → ℕ = λ s. product_by (λ (f : Factor). factor_there m.network f
-        (value_at s)) m.factors in
-        let l = kept_at_most f (λ s. holds m.known s && holds event s) (states (sizes m.network)) in
-        let w = sum_by_is g (states (sizes m.network)) in
-        let e : plus_over ◌+◌ 0 f (states (sizes m.network)) ≡ plus_over ◌+◌ 0 g (states
-        (sizes m.network)) =
-        ap (λ (h : List ℕ → ℕ). plus_over ◌+◌ 0 h (states (sizes m.network))) (fun_ext
-        (λ s. plus_over-map ◌*◌ 1 (λ (g : (ℕ → ℕ)
-        → ℕ). g (value_at s)) (factor_there m.network) m.factors)) in
-        omega (arith, l, w, e)
-
     all_ratios : (rs : List PlacedRatio) → ratio_count (factors_of rs) ≡ length rs
     all_ratios [] = refl
     all_ratios (t ∷ rs) =
@@ -263,18 +224,10 @@ module _ (gs : Groups) (ts : List PlacedRatio) (ks : List Pair) (homes : List �
 
     -- ---- grades
 
-    some_cells : 1 ≤ cells_of_all m
-    some_cells = let t = is.tree in let l = t.linked in at m.tree.cliques l.some
-      where
-        at : (sets : List VarSet) → 1 ≤ length sets → 1 ≤ sum_by (cells_of m.network) sets
-        at [] l = absurd (omega arith)
-        at (set ∷ sets) l = let e = sum_by-cons (cells_of m.network) set sets
-            in let p = cells_positive m.network set is.legal in omega (arith, e, p)
-
     pub grade_in_tree : (r : Held) (count : ℕ) → count ≡ length ts → HasHeldGrade r (count + 1)
         → HasHeldGrade r (tree_grade m)
-    grade_in_tree r count l h = held_grade_more r (count + 1) (tree_grade m) h (let e =
-        as_many_factors in let s = some_cells in omega (arith, l, e, s))
+    grade_in_tree r count l h = narrow.grade_in_tree gs ts ks homes m is r (count + 1)
+        (omega (arith, l)) h
 
     -- ---- what is found for an event
 
@@ -303,11 +256,8 @@ module _ (gs : Groups) (ts : List PlacedRatio) (ks : List Pair) (homes : List �
             (omega (arith, i)) (has.own f))
 
         pub unmet_apart : IsApart m event → kept.met ≡ false
-        unmet_apart apart = at (cases_Bool kept.met)
-          where
-            at : ((kept.met ≡ true) ⊎ (kept.met ≡ false)) → kept.met ≡ false
-            at (inl t) = absurd (none_meets event apart (has.met_is t))
-            at (inr f) = f
+        unmet_apart apart =
+            false_from_ne_true kept.met (λ t. none_meets event apart (has.met_is t))
 
         module _ (own_pairs : ArePairsOf m.network event) (apart : AreApart event)
             (fits : contradicts ks event ≡ false)
@@ -318,17 +268,9 @@ module _ (gs : Groups) (ts : List PlacedRatio) (ks : List Pair) (homes : List �
             pub is_belief : (r : Held) → HeldEncloses r found → HasHeldGrade r (count + 1)
                 → (found < number_limit → IsHeldExact r)
                 → IsBelief HeldEncloses HasHeldGrade IsHeldExact least m event r
-            is_belief r value grade exact = record {
-              value = subst (HeldEncloses r) (sym found_is) value;
-              grade = held_grade_more r (count + 1) (length m.factors + max_grade) grade (let e =
-                  as_many_factors in omega (arith, e, as_many));
-              exact = λ small. exact (let w = at_most_whole event in omega (
-                arith,
-                found_is,
-                w,
-                small,
-              ));
-            }
+            is_belief r value grade exact =
+                narrow.belief_of gs ts ks homes m is event r (count + 1) found
+                (omega (arith, as_many)) (sym found_is) value grade exact
 
             pub own_few : IsApart m event → (own : ℕ) → found ≡ own * 2 ^ (40 * count)
                 → own ≤ whole_sum (without_ratios m)
