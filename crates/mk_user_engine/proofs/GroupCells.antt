@@ -202,26 +202,26 @@ module _ (ts : List PlacedRatio) (ps : List Pair) (gs : List Group) (g : Group) 
   value_is : product_by (least_in ts ps) (gs ++ g ∷ []) ≡ value * other
   value_is = product_by_push (least_in ts ps) gs g
 
-  -- as of all groups
+  -- what is so of both with more factors, where these may be more, is so of all groups
+  of_all : (P : ℕ → ℕ → ℕ → Type 0) → ((s v n p : ℕ) → n ≤ p → P s v n → P s v p)
+      → (n : ℕ) → n ≤ 2 * (done + more) → P (40 * done + 40 * more) (value * other) n
+      → P (40 * all) (product_by (least_in ts ps) (gs ++ g ∷ [])) (2 * all)
+  of_all P grows n l h =
+      let i : 40 * done + 40 * more ≡ 40 * all = omega (arith, all_is) in
+      subst (λ v. P (40 * all) v (2 * all)) (sym value_is)
+      (subst (λ k. P k (value * other) (2 * all)) i
+      (grows (40 * done + 40 * more) (value * other) n (2 * all) (omega (arith, l, all_is)) h))
+
   stands_all : (d e n : ℕ) → n ≤ 2 * (done + more)
       → StandsAt (40 * done + 40 * more) d e (value * other) n
       → StandsAt (40 * all) d e (product_by (least_in ts ps) (gs ++ g ∷ [])) (2 * all)
-  stands_all d e n l s =
-      let i : 40 * done + 40 * more ≡ 40 * all = omega (arith, all_is) in
-      subst (λ v. StandsAt (40 * all) d e v (2 * all)) (sym value_is)
-      (subst (λ k. StandsAt k d e (value * other) (2 * all)) i
-      (stands_with_more (40 * done + 40 * more) d e (value * other) n (2 * all)
-      (omega (arith, l, all_is)) s))
+  stands_all d e =
+      of_all (λ s v n. StandsAt s d e v n) (λ s v n p. stands_with_more s d e v n p)
 
   own_all : (d e n : ℕ) → n ≤ 2 * (done + more)
       → IsOwnAt (40 * done + 40 * more) d e (value * other) n
       → IsOwnAt (40 * all) d e (product_by (least_in ts ps) (gs ++ g ∷ [])) (2 * all)
-  own_all d e n l s =
-      let i : 40 * done + 40 * more ≡ 40 * all = omega (arith, all_is) in
-      subst (λ v. IsOwnAt (40 * all) d e v (2 * all)) (sym value_is)
-      (subst (λ k. IsOwnAt k d e (value * other) (2 * all)) i
-      (own_more (40 * done + 40 * more) d e (value * other) n (2 * all)
-      (omega (arith, l, all_is)) s))
+  own_all d e = of_all (λ s v n. IsOwnAt s d e v n) (λ s v n p. own_more s d e v n p)
 
   met_left : MeetsOne ts ps gs → MeetsOne ts ps (gs ++ g ∷ [])
   met_left h = (h.0, Contains-append_left gs (g ∷ []) h.0 h.1, h.2, h.3, h.4)
