@@ -8,7 +8,7 @@ use Rattle.std.proofs.Math.Nat.{div-div-eq-div-mul, div-add-mod, add-mul-mod_sel
 use Rattle.std.proofs.Math.Nat.{add-mul-div_left}
 use Rattle.std.proofs.Math.Nat.{mul-zero, one-le-mul, mul_comm}
 use Rattle.std.proofs.lemmas.Nat.{div-mul-add, mod-mul-add}
-use Rattle.std.proofs.lemmas.Bool.{cases_Bool}
+use Rattle.std.proofs.lemmas.Bool.{cases_Bool, false_from_ne_true}
 use Rattle.mk_net.specs.declared.words.Pair.{Pair}
 use Rattle.mk_sums.specs.Sums.{Within}
 use Rattle.mk_cell.specs.Least.{least, least-at_zero}
@@ -185,18 +185,10 @@ module _ (ms ns : List Named) (a b : ℕ) (pairs : List Pair) (f g : (ℕ → �
         ∙ ap (λ t. cond t (value_in ms c x) (value_in ns (c / a) x)) e
 
     not_first : (x : ℕ) → is_named ns x ≡ true → is_named ms x ≡ false
-    not_first x e = at (cases_Bool (is_named ms x))
-      where
-        at : ((is_named ms x ≡ true) ⊎ (is_named ms x ≡ false)) → is_named ms x ≡ false
-        at (inl h) = absurd (apart x h e)
-        at (inr h) = h
+    not_first x e = false_from_ne_true (is_named ms x) (λ h. apart x h e)
 
     not_next : (x : ℕ) → is_named ms x ≡ true → is_named ns x ≡ false
-    not_next x e = at (cases_Bool (is_named ns x))
-      where
-        at : ((is_named ns x ≡ true) ⊎ (is_named ns x ≡ false)) → is_named ns x ≡ false
-        at (inl h) = absurd (apart x e h)
-        at (inr h) = h
+    not_next x e = false_from_ne_true (is_named ns x) (λ h. apart x e h)
 
     abbrev passes : List Named → ℕ → ℕ → ℕ → Bool
     passes names c x v = not (is_named names x) || (value_in names c x == v)
