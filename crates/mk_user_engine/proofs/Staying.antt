@@ -1,7 +1,7 @@
 -- What an engine in its narrow form knows of each meaning that it stands for, from one of them.
 use Rattle.std.proofs.Common.{◌≡◌, ℕ, false, List, [], ◌∷◌, All, Some, get_or, sym, subst, ◌∙◌}
 use Rattle.std.specs.List.{list_all}
-use Rattle.std.proofs.lemmas.Bool.{and_parts}
+use Rattle.std.proofs.lemmas.Bool.{and_parts, both_ways}
 use Rattle.std.proofs.lemmas.List.Elements.{All-weaker, All-from_recursion}
 use Rattle.mk_net.specs.declared.words.Pair.{Pair}
 use Rattle.mk_net.specs.Asked.{TradeRatio, ratio_pairs}
@@ -11,12 +11,15 @@ use Rattle.mk_states.proofs.Sums.{list_all-append}
 use Rattle.mk_scope.specs.Scopes.{ScopeOf, HasSized}
 use Rattle.mk_tree.specs.Given.{GivenTree, home, holds}
 use Rattle.mk_tree.proofs.Held.{home_is_held}
-use Rattle.mk_engine.specs.Meaning.{Meaning, ArePairsOf}
+use Rattle.mk_cell.specs.Least.{least}
+use Rattle.mk_engine.specs.Meaning.{Meaning, ArePairsOf, opening}
 use Rattle.mk_plan.specs.Shapes.{ShapeOf, IsShapeFor, IsClique, clique_scope}
 use Rattle.mk_plan.proofs.Scopes.{sized_within}
 use Rattle.mk_plan.proofs.Required.{same_sizes, pair_same, ratio_same, all_pass}
 use Rattle.mk_user_engine.specs.declared.engine.UserEngine.{UserEngine}
-use Rattle.mk_user_engine.specs.NarrowForm.{CanTake}
+use Rattle.mk_tree_engine.specs.Engines.{HasTree}
+use Rattle.mk_user_engine.specs.declared.narrow.Narrow.{Narrow}
+use Rattle.mk_user_engine.specs.NarrowForm.{IsNarrow, CanTake}
 use Rattle.mk_user_engine.specs.Users.{StandsFor, IsBeside}
 
 -- the scope of a ratio's home has each variable of its condition
@@ -77,3 +80,23 @@ module _ (e : UserEngine) (stays : e.is_over ≡ false) (a : Meaning) (of_a : St
             (t : GivenTree). home t (ratio_pairs ratio) ≡ Some at) (sym b.tree_is) there) of_m_is
             scope f;
       }
+
+-- the narrow form stands for what its lists do, beside the same engine over the tree
+pub stands_narrow : (e : UserEngine) (stays : e.is_over ≡ false) (m : Meaning) → StandsFor e m
+    → (lists : Narrow) (after : Meaning) → after.network ≡ m.network → after.tree ≡ m.tree
+    → IsNarrow lists after → StandsFor (record e { narrow = lists }) after
+stands_narrow e stays m of_m lists after same_network same_tree is_narrow =
+    let b = of_m.narrow stays in record {
+      tree_is = of_m.tree_is ∙ sym same_tree;
+      narrow = λ n. record {
+        shape_for = subst (λ (xs : List Variable). IsShapeFor e.shape.value xs) (sym same_network)
+            b.shape_for;
+        tree_is = b.tree_is ∙ sym same_tree;
+        lists = is_narrow;
+        begun = subst (λ (t : GivenTree). HasTree least e.tree (opening after.network t))
+            (sym same_tree)
+            (subst (λ (xs : List Variable). HasTree least e.tree (opening xs m.tree))
+            (sym same_network) b.begun);
+      };
+      over = λ o. absurd (both_ways e.is_over stays o);
+    }
