@@ -190,27 +190,30 @@ fn crash_everywhere(rt: &impl Abort, alloc: Global, plan: Plan) -> Result<u64, A
     Ok(images)
 }
 
+/// Stops unless so many images are opened, and each holds every change that was told.
+fn expect_images(
+    rt: &impl Abort,
+    alloc: Global,
+    piece: usize,
+    calls: u64,
+    images: u64,
+) -> Result<(), Fail>
+    requires { 1 ≤ piece }
+{
+    let opened = crash_everywhere(rt, alloc, Plan { piece, calls })?;
+    assert_eq!(rt; opened, images);
+    Ok(())
+}
+
 // One call opens the file, three load its front, six write a header, and four keep each of two
 // changes: 18. How many images there are follows from these, as the trials of stores reckon it.
 #[test]
 fn each_crash_leaves_every_told_change(rt: HostRuntime) -> Result<(), Fail> {
-    let plan = Plan {
-        piece: 1,
-        calls: 18,
-    };
-    let images = crash_everywhere(&rt, rt.alloc(), plan)?;
-    assert_eq!(rt; images, 1395);
-    Ok(())
+    expect_images(&rt, rt.alloc(), 1, 18, 1395)
 }
 
 // Both changes are kept by four calls.
 #[test]
 fn each_crash_leaves_both_changes_or_none(rt: HostRuntime) -> Result<(), Fail> {
-    let plan = Plan {
-        piece: 64,
-        calls: 14,
-    };
-    let images = crash_everywhere(&rt, rt.alloc(), plan)?;
-    assert_eq!(rt; images, 1179);
-    Ok(())
+    expect_images(&rt, rt.alloc(), 64, 14, 1179)
 }

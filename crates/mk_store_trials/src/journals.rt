@@ -210,6 +210,19 @@ fn crash_everywhere(rt: &impl Abort, alloc: Global, plan: Plan) -> Result<u64, A
     Ok(images)
 }
 
+// So many images are opened, and each holds what was kept.
+fn expect_crashes(
+    rt: &impl Abort,
+    alloc: Global,
+    together: bool,
+    calls: u64,
+    images: u64,
+) -> Result<(), Fail> {
+    let opened = crash_everywhere(rt, alloc, Plan { together, calls })?;
+    assert_eq!(rt; opened, images);
+    Ok(())
+}
+
 // One call opens the file, three load its front, six write a header, and four each of two changes: 18. The first run is
 // stopped at each of them, and at none, and crashes by 3 choices: 57 images. Of these 21 have at most one byte (all of
 // calls 1 to 6, two of call 7 and one of call 8), and an opening then makes 10 calls; 6 have a closed gate and more (one
@@ -217,25 +230,13 @@ fn crash_everywhere(rt: &impl Abort, alloc: Global, plan: Plan) -> Result<u64, A
 // calls, and at none, and crashes by 3 choices: 3 * (21 * 11 + 6 * 9 + 30 * 6).
 #[test]
 fn each_crash_leaves_every_kept_change(rt: HostRuntime) -> Result<(), Fail> {
-    let plan = Plan {
-        together: false,
-        calls: 18,
-    };
-    let images = crash_everywhere(&rt, rt.alloc(), plan)?;
-    assert_eq!(rt; images, 1395);
-    Ok(())
+    expect_crashes(&rt, rt.alloc(), false, 18, 1395)
 }
 
 // Both changes are kept by four calls: 14 calls and 45 images, of which 18 have a header.
 #[test]
 fn each_crash_leaves_a_group_or_none_of_it(rt: HostRuntime) -> Result<(), Fail> {
-    let plan = Plan {
-        together: true,
-        calls: 14,
-    };
-    let images = crash_everywhere(&rt, rt.alloc(), plan)?;
-    assert_eq!(rt; images, 1179);
-    Ok(())
+    expect_crashes(&rt, rt.alloc(), true, 14, 1179)
 }
 
 // A file of a gate, so many bytes of the market's header, and a tail.
