@@ -1,16 +1,7 @@
-use Rattle.std.proofs.Common.{List, [], sym, subst, arith}
-use Rattle.mk_exact.specs.History.{Entry}
-use Rattle.mk_exact.proofs.Range.{empty_proper}
-use Rattle.mk_best.specs.Chances.{IsPlaced}
+use Rattle.mk_best_trials.proofs.NoEntries.{none_placed}
 use Rattle.mk_best_trials.proofs.chances.expect.Goals as goal
 
 pub chance-requires-clause-history : goal.chance-requires-clause-history
 chance-requires-clause-history g c =
-    let file = c.args.file.now in
-    let net = file.net in
-    let placed : IsPlaced net file.tree [] = record {
-      proper = empty_proper net c.expect_own.ensures.network;
-      few_trades = omega arith;
-      homes = tt;
-    } in
-    subst (λ (H : List Entry). IsPlaced net file.tree H) (sym c.in_ok-journal.ensures) placed
+    none_placed c.args.file.now.net c.args.file.now.tree _ c.expect_own.ensures.network
+    c.in_ok-journal.ensures
