@@ -145,26 +145,26 @@ fn check(rt: &impl Abort, held: &Held, n: u64) {
     expect_ends(rt, held, ((n, 0), (n, 0)));
 }
 
+/// Stops unless three and five have this sum, and their product and what nothing adds are a
+/// semiring's.
+fn check_few<R: Semiring<Value = Held>>(rt: &impl Abort, sum: u64) {
+    check(rt, &plus_of::<R>(3, 5), sum);
+    check(rt, &times_of::<R>(3, 5), 15);
+    let (left, right) = plus_absent::<R>(5);
+    check(rt, &left, 5);
+    check(rt, &right, 5);
+    check(rt, &times_absent::<R>(5), 0);
+    check(rt, &R::one(), 1);
+}
+
 #[test]
 fn sums_and_products(rt: HostRuntime) {
-    check(&rt, &plus_of::<SumProd>(3, 5), 8);
-    check(&rt, &times_of::<SumProd>(3, 5), 15);
-    let (left, right) = plus_absent::<SumProd>(5);
-    check(&rt, &left, 5);
-    check(&rt, &right, 5);
-    check(&rt, &times_absent::<SumProd>(5), 0);
-    check(&rt, &SumProd::one(), 1);
+    check_few::<SumProd>(&rt, 8);
 }
 
 #[test]
 fn minima_and_products(rt: HostRuntime) {
-    check(&rt, &plus_of::<MinProd>(3, 5), 3);
-    check(&rt, &times_of::<MinProd>(3, 5), 15);
-    let (left, right) = plus_absent::<MinProd>(5);
-    check(&rt, &left, 5);
-    check(&rt, &right, 5);
-    check(&rt, &times_absent::<MinProd>(5), 0);
-    check(&rt, &MinProd::one(), 1);
+    check_few::<MinProd>(&rt, 3);
 }
 
 fn check_row<R: Semiring>(rt: &impl Abort, row: &Row, plus: Parts, plus_of_products: Parts) {
