@@ -312,14 +312,20 @@ fn reads_and_prints_how_full_a_market_is(rt: HostRuntime) -> Result<(), Fail> {
     no_longer(&rt, rt.alloc(), longest, 143, " ")
 }
 
+/// What a user is paid, between these bounds.
+fn payment(rt: &impl Abort, user: &[u8], bounds: (u64, u64), paid: u64) -> Payment {
+    let (low, high) = bounds;
+    Payment {
+        user: name(rt, user),
+        low,
+        high,
+        paid,
+    }
+}
+
 #[test]
 fn reads_and_prints_settlements(rt: HostRuntime) -> Result<(), Fail> {
-    let alice = Payment {
-        user: name(&rt, b"alice"),
-        low: 126,
-        high: 127,
-        paid: 126,
-    };
+    let alice = payment(&rt, b"alice", (126, 127), 126);
     let nobody = Reply::Settled {
         at: 6,
         payments: Payments::start(rt.alloc())?,
@@ -327,12 +333,7 @@ fn reads_and_prints_settlements(rt: HostRuntime) -> Result<(), Fail> {
     both_ways(&rt, rt.alloc(), "settle at 6", nobody)?;
     let mut payments = Payments::start(rt.alloc())?;
     payments.push(alice);
-    payments.push(Payment {
-        user: name(&rt, b"paid"),
-        low: 0,
-        high: MOST,
-        paid: 0,
-    });
+    payments.push(payment(&rt, b"paid", (0, MOST), 0));
     let text = "settle at 6, alice 126..127 paid 126, paid 0..9223372036854775807 paid 0";
     both_ways(&rt, rt.alloc(), text, Reply::Settled { at: 6, payments })?;
     Ok(())
@@ -355,30 +356,17 @@ fn reads_and_prints_settlements_of_many(rt: HostRuntime) -> Result<(), Fail> {
     no_longer(&rt, rt.alloc(), longest, 66, ", ")
 }
 
+fn paid(rt: &impl Abort, alloc: Global, text: &str, payment: Payment) -> Result<(), Fail> {
+    both_ways(rt, alloc, text, Reply::Paid { payment })
+}
+
 #[test]
 fn reads_and_prints_what_one_is_paid(rt: HostRuntime) -> Result<(), Fail> {
-    let alice = Payment {
-        user: name(&rt, b"alice"),
-        low: 5,
-        high: 6,
-        paid: 5,
-    };
-    let text = "paid alice 5..6 paid 5";
-    both_ways(&rt, rt.alloc(), text, Reply::Paid { payment: alice })?;
-    let odd = Payment {
-        user: name(&rt, b"paid"),
-        low: 0,
-        high: 0,
-        paid: 0,
-    };
-    let text = "paid paid 0..0 paid 0";
-    both_ways(&rt, rt.alloc(), text, Reply::Paid { payment: odd })?;
-    let longest = Payment {
-        user: name(&rt, b"abcdefghijklmnopqrstuvwxyz_01234"),
-        low: MOST,
-        high: MOST,
-        paid: MOST,
-    };
+    let alice = payment(&rt, b"alice", (5, 6), 5);
+    paid(&rt, rt.alloc(), "paid alice 5..6 paid 5", alice)?;
+    let odd = payment(&rt, b"paid", (0, 0), 0);
+    paid(&rt, rt.alloc(), "paid paid 0..0 paid 0", odd)?;
+    let longest = payment(&rt, b"abcdefghijklmnopqrstuvwxyz_01234", (MOST, MOST), MOST);
     no_longer(&rt, rt.alloc(), Reply::Paid { payment: longest }, 103, " ")
 }
 
