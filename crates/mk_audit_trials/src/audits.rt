@@ -19,126 +19,97 @@ limits alice coin=heads
 edit alice coin=heads to 600000 at 2
 ";
 
-/// Transcripts, each with its verdict.
-const TRANSCRIPTS: [(&str, &str); 17] = [
-    (
-        "ready 1 100
+/// The first replies to the commands.
+const START: &str = "ready 1 100
 user alice at 1
 deposit alice 1 at 2
-limits 250000..750000 at 2
+";
+
+/// What follows the first replies in a transcript, each with its verdict.
+const GONE_ON: [(&str, &str); 13] = [
+    (
+        "limits 250000..750000 at 2
 trade 1319413953331 879609302220 at 3
 ",
         "audit yes 5\n",
     ),
     (
-        "ready 1 100
-user alice at 1
-deposit alice 1 at 2
-limits 250000..750001 at 2
+        "limits 250000..750001 at 2
 trade 1319413953331 879609302220 at 3
 ",
         "audit no 4\n",
     ),
     (
-        "ready 1 100
-user alice at 1
-deposit alice 1 at 2
-limits 250001..750000 at 2
+        "limits 250001..750000 at 2
 trade 1319413953331 879609302220 at 3
 ",
         "audit no 4\n",
     ),
     (
-        "ready 1 100
-user alice at 1
-deposit alice 1 at 2
-limits none at 2
+        "limits none at 2
 trade 1319413953331 879609302220 at 3
 ",
         "audit no 4\n",
     ),
     (
-        "ready 1 100
-user alice at 1
-deposit alice 1 at 2
-limits 250000..750000 at 2
+        "limits 250000..750000 at 2
 trade 1319413953330 879609302220 at 3
 ",
         "audit no 5\n",
     ),
     (
-        "ready 1 100
-user alice at 1
-deposit alice 1 at 2
-limits 250000..750000 at 2
+        "limits 250000..750000 at 2
 trade 1319413953331 879609302221 at 3
 ",
         "audit no 5\n",
     ),
     (
-        "ready 1 100
-user alice at 1
-deposit alice 1 at 2
-limits 250000..750000 at 2
+        "limits 250000..750000 at 2
 trade 1319413953331 879609302220 at 2
 ",
         "audit no 5\n",
     ),
     (
-        "ready 1 100
-user alice at 1
-deposit alice 1 at 2
-limits 250000..750000 at 2
+        "limits 250000..750000 at 2
 refused beyond 250000..750000
 ",
         "audit no 5\n",
     ),
     (
-        "ready 1 100
-user alice at 1
-deposit alice 1 at 2
-limits 250000..750000 at 2
+        "limits 250000..750000 at 2
 ",
         "audit no 5\n",
     ),
     (
-        "ready 1 100
-user alice at 1
-deposit alice 1 at 2
-limits 250000..750000 at 2
+        "limits 250000..750000 at 2
 trade 1319413953331 879609302220 at 3",
         "audit no 5\n",
     ),
     (
-        "ready 1 100
-user alice at 1
-deposit alice 1 at 2
-limits 250000..750000 at 2
+        "limits 250000..750000 at 2
 trade 1319413953331 879609302220 at 3
 none
 ",
         "audit no 6\n",
     ),
     (
-        "ready 1 100
-user alice at 1
-deposit alice 1 at 2
-limits 250000..750000 at 2
+        "limits 250000..750000 at 2
 trade 1319413953331 879609302220 at 3
 
 ",
         "audit no 6\n",
     ),
     (
-        "ready 1 100
-user alice at 1
-deposit alice 1 at 2
-
+        "
 limits 250000..750000 at 2
 trade 1319413953331 879609302220 at 3
 ",
         "audit no 4\n",
     ),
+];
+
+/// Transcripts that begin in other ways, each with its verdict.
+const TRANSCRIPTS: [(&str, &str); 4] = [
     (
         "ready 1 100
 refused memory
@@ -205,18 +176,30 @@ fn transcript_of(
     written
 }
 
+/// Stops unless this is said of a transcript of the coin's market.
+fn expect_verdict(
+    rt: &impl Abort,
+    alloc: Global,
+    transcript: &[u8],
+    verdict: &str,
+) -> Result<(), AllocError> {
+    let (market, commands) = (COIN.as_bytes(), COMMANDS.as_bytes());
+    let said = audited(rt, alloc, market, commands, transcript)?;
+    assert!(rt; &said[..] == verdict.as_bytes(), "{verdict}");
+    drop(said);
+    Ok(())
+}
+
 #[test]
 fn transcripts_of_a_coin(rt: HostRuntime) -> Result<(), Fail> {
+    for (next, verdict) in GONE_ON {
+        let mut transcript = START.as_bytes().to_vec(rt.alloc())?;
+        transcript.extend_from_slice(next.as_bytes())?;
+        expect_verdict(&rt, rt.alloc(), &transcript, verdict)?;
+        drop(transcript);
+    }
     for (transcript, verdict) in TRANSCRIPTS {
-        let said = audited(
-            &rt,
-            rt.alloc(),
-            COIN.as_bytes(),
-            COMMANDS.as_bytes(),
-            transcript.as_bytes(),
-        )?;
-        assert!(rt; &said[..] == verdict.as_bytes(), "{transcript}");
-        drop(said);
+        expect_verdict(&rt, rt.alloc(), transcript.as_bytes(), verdict)?;
     }
     Ok(())
 }
