@@ -23,6 +23,16 @@ room_of t steps is few = record {
   small_shift = omega (arith, is.no_shift);
 }
 
+-- a product of two plain tables is plain
+pub plain_product : {table other new : TableOf} {n p : ℕ} → IsPlain table n → IsPlain other p
+    → (numbers : ℕ → ℕ) → HasNumbers new numbers (n + p + 1)
+    → new.shift ≡ table.shift + other.shift → IsPlain new (n + p + 1)
+plain_product of_table of_other numbers has shift = record {
+  numbers = numbers;
+  has = has;
+  no_shift = omega (arith, shift, of_table.no_shift, of_other.no_shift);
+}
+
 -- three tables of ones over the scopes
 module _ (tables : List TableOf) (scopes : List ScopeOf) (are : scopes ≡ weather_scopes)
     (one_each : length tables ≡ length scopes)

@@ -1,7 +1,7 @@
 use Rattle.std.proofs.Common.{arith, lit<, sym, subst}
 use Rattle.mk_table.specs.Tables.{TableOf}
 use Rattle.mk_table.specs.Lists.{table_in}
-use Rattle.mk_table_trials.proofs.Examples.{IsPlain, room_of, plain_at, fresh_weather, other_after, weather_after}
+use Rattle.mk_table_trials.proofs.Examples.{IsPlain, room_of, plain_product, plain_at, fresh_weather, other_after, weather_after}
 use Rattle.mk_table_trials.proofs.tables.ones_times_ones.Goals as goal
 
 pub returns : goal.returns
@@ -12,11 +12,8 @@ returns g c =
     let all = plain_at made scopes are ones.one_each ones.ones 0 (lit< tt) in
     let rain = plain_at made scopes are ones.one_each ones.ones 1 (lit< tt) in
     let rain_left = other_after made last 0 message.only 1 (λ e. omega (arith, e)) in
-    let all_times : IsPlain (table_in last 0) 1 = record {
-      numbers = _;
-      has = message.numbers _ _ _ _ all.has rain.has;
-      no_shift = omega (arith, message.shift, all.no_shift, rain.no_shift);
-    } in
+    let all_times : IsPlain (table_in last 0) 1 =
+    plain_product all rain _ (message.numbers _ _ _ _ all.has rain.has) message.shift in
     record {
       weather =
           weather_after made last 0 message.only message.scope

@@ -1,7 +1,7 @@
 use Rattle.std.proofs.Common.{arith, lit<, sym, subst, ◌∙◌}
 use Rattle.mk_table.specs.Tables.{TableOf}
 use Rattle.mk_table.specs.Lists.{table_in}
-use Rattle.mk_table_trials.proofs.Examples.{IsPlain, room_of, plain_at, fresh_weather, other_after, weather_after}
+use Rattle.mk_table_trials.proofs.Examples.{IsPlain, room_of, plain_product, plain_at, fresh_weather, other_after, weather_after}
 use Rattle.mk_table_trials.proofs.tables.product.Goals as goal
 
 pub returns : goal.returns
@@ -30,11 +30,8 @@ returns g c =
       has = second.numbers _ _ all_ones.has;
       no_shift = second.shift ∙ all_ones.no_shift;
     } in
-    let all_times : IsPlain (table_in last 0) 3 = record {
-      numbers = _;
-      has = message.numbers _ _ _ _ all.has rain.has;
-      no_shift = omega (arith, message.shift, all.no_shift, rain.no_shift);
-    } in
+    let all_times : IsPlain (table_in last 0) 3 =
+    plain_product all rain _ (message.numbers _ _ _ _ all.has rain.has) message.shift in
     record {
       weather =
           weather_after both last 0 message.only message.scope
