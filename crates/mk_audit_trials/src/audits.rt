@@ -137,6 +137,19 @@ fn named(alloc: Global, name: &str, bytes: &[u8]) -> Result<NamedFile, AllocErro
     })
 }
 
+/// What was written of a run that ended well.
+fn written_well(
+    rt: &impl Abort,
+    alloc: Global,
+    out: MemorySink,
+    status: Status,
+) -> Result<Vec<u8>, AllocError> {
+    assert!(rt; status == Status::Done);
+    let written = out.written().to_vec(alloc);
+    drop(out);
+    written
+}
+
 /// What is written of an audit that ends well.
 fn audited(
     rt: &impl Abort,
@@ -151,11 +164,8 @@ fn audited(
     let mut inputs = QuietInputs::new(files, commands.to_vec(alloc)?, 4096);
     let mut out = MemorySink::new(vec![in alloc; 0u8; 64]?, 64, Vec::new(alloc));
     let status = audit_named(alloc, "market", "transcript", &mut inputs, &mut out);
-    let written = out.written().to_vec(alloc);
     drop(inputs);
-    drop(out);
-    assert!(rt; status == Status::Done);
-    written
+    written_well(rt, alloc, out, status)
 }
 
 /// The transcript of a market's run.
@@ -169,11 +179,8 @@ fn transcript_of(
     let mut inputs = QuietInputs::new(files, commands.to_vec(alloc)?, 4096);
     let mut out = MemorySink::new(vec![in alloc; 0u8; 65536]?, 4096, Vec::new(alloc));
     let status = serve(alloc, "market", &mut inputs, &mut out);
-    let written = out.written().to_vec(alloc);
     drop(inputs);
-    drop(out);
-    assert!(rt; status == Status::Done);
-    written
+    written_well(rt, alloc, out, status)
 }
 
 /// Stops unless this is said of a transcript of the coin's market.
