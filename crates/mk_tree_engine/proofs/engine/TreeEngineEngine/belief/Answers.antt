@@ -1,5 +1,4 @@
 use Rattle.std.proofs.Common.{◌≡◌, sym, ap, subst, ◌∙◌, arith}
-use Rattle.mk_tree.specs.Held.{IsHeldAt}
 use Rattle.mk_engine.specs.Meaning.{Meaning}
 use Rattle.mk_plan.specs.Shapes.{ShapeOf, IsClique}
 use Rattle.mk_propagate.specs.Flows.{counted_on}
