@@ -16,39 +16,29 @@ struct CountedRun {
     last: &'static str,
 }
 
+/// Rows of commands, with the counts and the last line.
+macro_rules! counted_runs {
+    ($($commands:literal -> $counts:tt $last:literal;)*) => {
+        [$(CountedRun {
+            commands: $commands,
+            counts: $counts,
+            last: $last,
+        }),*]
+    };
+}
+
 /// In the last row alice pays in 100 points, and has 100 * log2(0.6 / 0.5) = 26.3 more where heads comes.
-const COINS: [CountedRun; 6] = [
-    CountedRun {
-        commands: "",
-        counts: (0, 0, 0),
-        last: "",
-    },
-    CountedRun {
-        commands: "\n   \n\r\n",
-        counts: (0, 0, 0),
-        last: "",
-    },
-    CountedRun {
-        commands: "price coin=heads\n\n   \nprice coin=side\n\n",
-        counts: (2, 0, 1),
-        last: "refused name coin=side\n",
-    },
-    CountedRun {
-        commands: "price coin=side\nprice coin\nprice coin=tails",
-        counts: (3, 0, 2),
-        last: "price 0.5000000000..0.5000000000\n",
-    },
-    CountedRun {
-        commands: "user alice\ndeposit alice 1\nspread alice coin to 500000\nspread alice coin to 600000 400000\nspread alice coin to 1 2",
-        counts: (5, 1, 2),
-        last: "refused sum 3\n",
-    },
-    CountedRun {
-        commands: "user alice\n\ndeposit alice 1\n   \nedit alice coin=heads to 600000\nedit alice coin=heads to 999999\nresolve coin=heads\nsettle",
-        counts: (6, 1, 1),
-        last: "settle at 5, alice 126..126 paid 126\n",
-    },
-];
+const COINS: [CountedRun; 6] = counted_runs! {
+    "" -> (0, 0, 0) "";
+    "\n   \n\r\n" -> (0, 0, 0) "";
+    "price coin=heads\n\n   \nprice coin=side\n\n" -> (2, 0, 1) "refused name coin=side\n";
+    "price coin=side\nprice coin\nprice coin=tails" -> (3, 0, 2)
+        "price 0.5000000000..0.5000000000\n";
+    "user alice\ndeposit alice 1\nspread alice coin to 500000\nspread alice coin to 600000 400000\nspread alice coin to 1 2" -> (5, 1, 2)
+        "refused sum 3\n";
+    "user alice\n\ndeposit alice 1\n   \nedit alice coin=heads to 600000\nedit alice coin=heads to 999999\nresolve coin=heads\nsettle" -> (6, 1, 1)
+        "settle at 5, alice 126..126 paid 126\n";
+};
 
 /// Stops unless the counts are these, and this is the line of the last reply.
 fn expect_tally(rt: &impl Abort, counted: &Tally, counts: (u32, u32, u32), last: &str) {
