@@ -380,6 +380,7 @@ impl<J> Conversation<J> {
 
     /// Takes the change that the line made whose answer is printed, where the history of the market
     /// is not as long as before.
+    #[inline(always)]
     fn keep_change<D>(
         &mut self,
         market: &TreeMarket,
