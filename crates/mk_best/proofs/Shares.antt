@@ -209,18 +209,29 @@ can_ask stands_for engine network tree H pair at values asked stands legal few f
       room = few_factors network tree H legal few;
     })
 
-pub fails_in : (network : List Variable) (tree : GivenTree) (H : List Entry) (pair : Pair)
-    (values : ℕ) (asked : Asked) (belief : Held) → IsPairOf network pair → asked ≡ is_asked pair
-    → values ≡ slice_index (sizes network) pair.variable
+-- what is asked with an event of no pairs, by what is known of a question that is made
+pub asked_is : {asked : Asked} {pair : Pair} {event : List Pair}
+    → asked ≡ record { target = pair; condition = event } → event ≡ [] → asked ≡ is_asked pair
+asked_is {pair = pair} is none =
+    is ∙ ap (λ (ps : List Pair). record { target = pair; condition = ps }) none
+
+-- the belief in the other values of a pair's variable is in all states without the pair
+pub fails_in : {network : List Variable} {pair : Pair} {values : ℕ} {asked : Asked}
+    (tree : GivenTree) (H : List Entry) (belief : Held) → IsPairOf network pair
+    → asked ≡ is_asked pair → values ≡ slice_index (sizes network) pair.variable
+    → (values ≡ slice_index (sizes network) asked.target.variable
     → IsOthersBelief HeldEncloses HasHeldGrade IsHeldExact ◌+◌ (weights_of network tree H) asked
-    values belief
+    values belief)
     → HeldEncloses belief (total network H (λ s. not (has pair s)))
-fails_in network tree H pair values asked belief fits is sized b =
+fails_in {network = network} {pair = pair} {values = values} {asked = asked} tree H belief fits is
+    sized b =
+    let sized_so : values ≡ slice_index (sizes network) asked.target.variable = subst
+    (λ (x : Asked). values ≡ slice_index (sizes network) x.target.variable) (sym is) sized in
     subst (HeldEncloses belief)
     (ap (λ (a : Asked). exact_others ◌+◌ (weights_of network tree H) a values) is
     ∙ ap (λ n. exact_others ◌+◌ (weights_of network tree H) (is_asked pair) n) sized
     ∙ others_are_total network tree H (is_asked pair) (record { target = fits; condition = tt }))
-    b.value
+    (b sized_so).value
 
 pub none_of : (belief : Held) (n : ℕ) → belief ≡ Absent → HeldEncloses belief n → n ≡ 0
 none_of belief n is h = subst (λ (x : Held). HeldEncloses x n) is h
