@@ -6,6 +6,7 @@ use Rattle.std.proofs.lemmas.Bool.{cases_lt}
 use Rattle.std.proofs.lemmas.Grind.{div_ceil_times}
 use Rattle.std.proofs.Math.Nat.{mul-le-mul, mul-le-mul_left, mul-le-mul_right}
 use Rattle.std.proofs.Math.Nat.{mul-lt-mul_of_pos_right, lt_of_mul-lt-mul_right, one-le-pow}
+use Rattle.mk_exact.specs.Weight.{IsSmall}
 use Rattle.mk_scaled.specs.Near.{IsNear, near_width, near_trans, near_more, near_between}
 use Rattle.mk_enclose.specs.declared.enclosure.Enclosure.{Enclosure}
 use Rattle.mk_enclose.specs.Enclosure.{lower_of, upper_of, Encloses, HasGrade, IsExact}
@@ -14,7 +15,7 @@ use Rattle.mk_semiring.specs.declared.held.Held.{Held}
 use Rattle.mk_semiring.specs.declared.held.Held.TheVariants.{Absent, Present}
 use Rattle.mk_semiring.specs.Held.{HeldEncloses}
 use Rattle.mk_answers.specs.inner.Found.{max_side_grade}
-use Rattle.mk_best.specs.inner.Picks.{AreEnds, IsCertificate}
+use Rattle.mk_best.specs.inner.Picks.{AreEnds, HasEnds, IsCertificate}
 
 -- k of n are less than u of p; t is not far above n, nor p above w, nor w above v; and u of v are
 -- less than l of t, or not far above
@@ -214,6 +215,21 @@ module _ (own top : Held) (whole : Enclosure) (small : Type 0) (v w t : ℕ)
   ends_present e f is also =
       subst (λ (x : Held). AreEnds (Present e) x whole small v w t) also
       (subst (λ (x : Held). AreEnds x top whole small v w t) is ends)
+
+-- so the lower end of the one is not above the upper end of the other, and the units are below the
+-- limit
+pub ends_fit : {own top : Held} {whole e f : Enclosure} → HasEnds own top whole → own ≡ Present e
+    → top ≡ Present f
+    → (lower_of e ≤ upper_of f) × (div_ceil (upper_of f * 10 ^ 10) (lower_of whole) < 2 ^ 63)
+ends_fit {own = own} {top = top} {whole = whole} {e = e} {f = f} a is also = (
+  between_fits e f whole (IsSmall a.network a.history) a.state a.best a.all present,
+  units_fit e f whole (IsSmall a.network a.history) a.state a.best a.all present,
+)
+  where
+    present : AreEnds (Present e) (Present f) whole (IsSmall a.network a.history) a.state a.best
+        a.all
+    present = ends_present own top whole (IsSmall a.network a.history) a.state a.best a.all a.ends e
+        f is also
 
 -- one number is the ceiling of a share
 pub one_ceiling : (x y a t : ℕ) → 1 ≤ t → a ≤ x * t → x * t < a + t → a ≤ y * t → y * t < a + t

@@ -2,8 +2,7 @@ use Rattle.std.proofs.Common.{◌≡◌, ℕ, ◌*◌, ◌<◌, ap₂, sym, subs
 use Rattle.std.specs.Int.{div_ceil}
 use Rattle.mk_exact.specs.Weight.{IsSmall}
 use Rattle.mk_enclose.specs.Enclosure.{lower_of, upper_of}
-use Rattle.mk_best.proofs.Certified.{own_there, top_there, ends_present, between_fits, units_fit}
-use Rattle.mk_best.proofs.Certified.{certified}
+use Rattle.mk_best.proofs.Certified.{own_there, top_there, ends_present, ends_fit, certified}
 use Rattle.mk_best.proofs.best_state.certificate.Goals as goal
 
 units_are : (hi lo u l : ℕ) → hi ≡ u → lo ≡ l
@@ -25,27 +24,17 @@ unreachable-requires-in_default-top c =
 
 pub unreachable-requires-in_default-div_ceil : goal.unreachable-requires-in_default-div_ceil
 unreachable-requires-in_default-div_ceil c =
-    let a = c.requires in
-    let own = c.in-Present.own in
-    let top = c.in-Present-top.top in
-    let whole = c.args.whole.now in
-    let fits = units_fit own top whole (IsSmall a.network a.history) a.state a.best a.all
-    (ends_present c.args.own.now c.args.top.now whole (IsSmall a.network a.history) a.state a.best
-    a.all a.ends own top c.in-Present.is c.in-Present-top.is) in
+    let fits = (ends_fit {e = c.in-Present.own} {f = c.in-Present-top.top} c.requires
+    c.in-Present.is c.in-Present-top.is).1 in
     c.in_default-div_ceil.ensures
     (subst (λ n. n < 9223372036854775808)
-    (sym (units_are c.hi.result c.lo.result (upper_of top) (lower_of whole) c.hi.ensures.value
-    c.lo.ensures.value)) fits)
+    (sym (units_are c.hi.result c.lo.result (upper_of c.in-Present-top.top)
+    (lower_of c.args.whole.now) c.hi.ensures.value c.lo.ensures.value)) fits)
 
 pub between-requires-clause-ordered : goal.between-requires-clause-ordered
 between-requires-clause-ordered c =
-    let a = c.requires in
-    let own = c.in-Present.own in
-    let top = c.in-Present-top.top in
-    let whole = c.args.whole.now in
-    let fits = between_fits own top whole (IsSmall a.network a.history) a.state a.best a.all
-    (ends_present c.args.own.now c.args.top.now whole (IsSmall a.network a.history) a.state a.best
-    a.all a.ends own top c.in-Present.is c.in-Present-top.is) in
+    let fits = (ends_fit {e = c.in-Present.own} {f = c.in-Present-top.top} c.requires
+    c.in-Present.is c.in-Present-top.is).0 in
     omega (arith, fits, c.lo-2.ensures.value, c.hi-2.ensures.value)
 
 pub returns : goal.returns
