@@ -1,6 +1,6 @@
 -- The value with the greatest lower end, and how near the greatest weight stays.
 use Rattle.std.proofs.Common.{◌≡◌, ℕ, zero, suc, ◌+◌, ◌<◌, ◌≤◌, ◌⊎◌, inl, inr, max}
-use Rattle.std.proofs.Common.{sym, subst, arith, le_trans, le_refl}
+use Rattle.std.proofs.Common.{◌↔◌, Bool, true, false, sym, subst, arith, le_trans, le_refl}
 use Rattle.std.specs.List.{range_with_len}
 use Rattle.std.proofs.lemmas.Bool.{cases_lt}
 use Rattle.mk_states.specs.States.{numbers_below, plus_over}
@@ -28,6 +28,13 @@ low_near Absent small v b =
     subst (λ n. IsNear 0 n max_side_grade) (sym z) (near_self 0 max_side_grade)
 low_near (Present e) small v b =
     near_between e.lo e.lo v e.hi max_side_grade (le_refl e.lo) b.encloses.upper b.grade.0.near
+
+not_above : (x y : ℕ) (b : Bool) → (x < y → b ≡ true) → b ≡ false → y ≤ x
+not_above x y b p e = at (cases_lt x y)
+  where
+    at : ((x < y) ⊎ (y ≤ x)) → y ≤ x
+    at (inl l) = absurd (let f = p l in cc)
+    at (inr l) = l
 
 module _ (f : ℕ → ℕ) (small : Type 0) where
   pub pick_none : IsPickOf 0 f small 0 0
@@ -75,6 +82,15 @@ module _ (f : ℕ → ℕ) (small : Type 0) where
           (let a = low_exact b (f n) has.encloses (has.exact s) in omega (arith, a, not_above));
       first = p.first;
     }
+
+    -- so, of a test that tells whether it is
+    pub pick_more : (above : Bool) → (above ≡ true) ↔ (low < low_of b)
+        → (above ≡ true → IsPickOf (n + 1) f small n (low_of b))
+        × (above ≡ false → IsPickOf (n + 1) f small best low)
+    pick_more above tells = (
+      λ e. pick_next (tells.0 e),
+      λ e. pick_stays (not_above low (low_of b) above tells.1 e),
+    )
 
 -- what each is near to, or not above, the greatest is too
 near_most : (low g : ℕ) (f : ℕ → ℕ) (n a : ℕ)

@@ -1,22 +1,16 @@
-use Rattle.std.proofs.Common.{◌≡◌, ℕ, ◌<◌, ◌≤◌, ◌⊎◌, inl, inr, Bool, true, false, slice_index}
-use Rattle.std.proofs.Common.{subst, arith}
-use Rattle.std.proofs.lemmas.Bool.{cases_lt}
+use Rattle.std.proofs.Common.{◌≡◌, ◌≤◌, List, length, slice_index, subst, arith}
+use Rattle.mk_net.specs.Bounds.{max_market_trades}
 use Rattle.mk_net.specs.Network.{sizes}
 use Rattle.mk_net.specs.Named.{nobody}
+use Rattle.mk_exact.specs.History.{Entry, trades}
 use Rattle.mk_exact.specs.Weight.{IsSmall}
 use Rattle.mk_states.proofs.Shares.{size_at}
+use Rattle.mk_engine.specs.Meaning.{Meaning}
 use Rattle.mk_beliefs.specs.Meanings.{weights_of}
 use Rattle.mk_best.specs.inner.Picks.{low_of, greatest_with, IsPickOf}
-use Rattle.mk_best.proofs.Picked.{pick_none, pick_next, pick_stays}
+use Rattle.mk_best.proofs.Picked.{pick_none, pick_more}
 use Rattle.mk_best.proofs.picks.best_value.Goals as goal
 use Rattle.mk_best.proofs.picks.best_value.Goals.{then-is_above, else-is_above}
-
-not_above : (x y : ℕ) (b : Bool) → (x < y → b ≡ true) → b ≡ false → y ≤ x
-not_above x y b p e = at (cases_lt x y)
-  where
-    at : ((x < y) ⊎ (y ≤ x)) → y ≤ x
-    at (inl l) = absurd (let f = p l in cc)
-    at (inr l) = l
 
 pub loop-value-init : goal.loop-value-init
 loop-value-init g c = record {
@@ -43,30 +37,23 @@ belief_in-belief-requires g c =
 
 pub loop-value-preserved : goal.loop-value-preserved
 loop-value-preserved g c =
-    let net = c.args.net.now in let tree = c.args.tree.now in let n = c.loop-value.value in
-    let legal = c.requires.search.legal in
+    let net = c.args.net.now in let tree = c.args.tree.now in
+    let kept = λ (m : Meaning) (h : g.E.Engine.stands_for c.args.engine.now m).
+    c.belief_in-belief.ensures.kept m (c.loop-value.invariant.kept m h) in
+    let more = λ (H : List Entry)
+    (h : g.E.Engine.stands_for c.args.engine.now (weights_of net tree H))
+    (few : length (trades H) ≤ max_market_trades).
+    pick_more (greatest_with net H c.args.variable) (IsSmall net H) c.loop-value.value
+    c.loop-value.best (low_of c.loop-value.most) c.belief_in-belief.result
+    (c.loop-value.invariant.found H h few)
+    (c.belief_in-belief.ensures.belief net H c.requires.search.legal
+    (c.loop-value.invariant.kept (weights_of net tree H) h) few) c.is_above.result
+    c.is_above.ensures in
     elim c.if-is_above.branch [
-      | then-is_above w ↦ rw (w.best-is, w.most-is) (record {
-        kept = λ m h. c.belief_in-belief.ensures.kept m (c.loop-value.invariant.kept m h);
-        found = λ H h few.
-            pick_next (greatest_with net H c.args.variable) (IsSmall net H) n c.loop-value.best
-            (low_of c.loop-value.most) c.belief_in-belief.result
-            (c.loop-value.invariant.found H h few)
-            (c.belief_in-belief.ensures.belief net H legal
-            (c.loop-value.invariant.kept (weights_of net tree H) h) few)
-            (c.is_above.ensures.0 w.if-is_above.true);
-      })
-      | else-is_above w ↦ rw (w.best-is, w.most-is) (record {
-        kept = λ m h. c.belief_in-belief.ensures.kept m (c.loop-value.invariant.kept m h);
-        found = λ H h few.
-            pick_stays (greatest_with net H c.args.variable) (IsSmall net H) n c.loop-value.best
-            (low_of c.loop-value.most) c.belief_in-belief.result
-            (c.loop-value.invariant.found H h few)
-            (c.belief_in-belief.ensures.belief net H legal
-            (c.loop-value.invariant.kept (weights_of net tree H) h) few)
-            (not_above (low_of c.loop-value.most) (low_of c.belief_in-belief.result)
-            c.is_above.result c.is_above.ensures.1 w.if-is_above.false);
-      })
+      | then-is_above w ↦ rw (w.best-is, w.most-is)
+          (record { kept = kept; found = λ H h few. (more H h few).0 w.if-is_above.true })
+      | else-is_above w ↦ rw (w.best-is, w.most-is)
+          (record { kept = kept; found = λ H h few. (more H h few).1 w.if-is_above.false })
     ]
 
 pub returns-clause-within : goal.returns-clause-within
