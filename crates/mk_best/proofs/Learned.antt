@@ -25,6 +25,12 @@ use Rattle.mk_best.specs.inner.Engines.{learned}
 pub learned_none : (H : List Entry) → learned H [] ≡ H
 learned_none H = append-nil H
 
+-- what holds of a history holds of each from which known pairs lead to it
+pub holds_after : (P : List Entry → Type 0) (H : List Entry) {K : List Entry}
+    {pairs known : List Pair} → known ≡ pairs → learned H pairs ≡ K → P K → P (learned H known)
+holds_after P H is leads p =
+    subst (λ (ps : List Pair). P (learned H ps)) (sym is) (subst P (sym leads) p)
+
 no_trades : (pairs : List Pair) → filter_map trade_in (map Resolve pairs) ≡ []
 no_trades [] = refl
 no_trades (p ∷ ps) = no_trades ps

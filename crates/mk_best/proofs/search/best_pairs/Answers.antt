@@ -7,7 +7,7 @@ use Rattle.mk_beliefs.specs.Meanings.{weights_of}
 use Rattle.mk_best.specs.inner.Engines.{learned}
 use Rattle.mk_best.specs.inner.Picks.{is_at, AreFound}
 use Rattle.mk_best.proofs.Greedy.{found_none, found_more}
-use Rattle.mk_best.proofs.Learned.{learned_none}
+use Rattle.mk_best.proofs.Learned.{learned_none, holds_after}
 use Rattle.mk_best.proofs.Maxima.{learned_pair}
 use Rattle.mk_best.proofs.Shares.{few_learned}
 use Rattle.mk_best.proofs.search.best_pairs.Goals as goal
@@ -18,10 +18,8 @@ loop-variable-init g c =
     let none = c.new-pairs.ensures.items in
     record {
       learned_so_far = λ H h.
-          subst (λ (ps : List Pair). g.E.Engine.stands_for c.args.engine.now
-          (weights_of net tree (learned H ps))) (sym none)
-          (subst (λ (K : List Entry). g.E.Engine.stands_for c.args.engine.now
-          (weights_of net tree K)) (sym (learned_none H)) h);
+          holds_after (λ (K : List Entry). g.E.Engine.stands_for c.args.engine.now
+          (weights_of net tree K)) H none (learned_none H) h;
       found = λ H h few. subst (λ (ps : List Pair). AreFound net H 0 ps) (sym none)
           (found_none net H);
     }
@@ -65,13 +63,11 @@ loop-variable-preserved g c =
     let more = c.in_ok-push.ensures.items in
     record {
       learned_so_far = λ H h.
-          subst (λ (qs : List Pair). g.E.Engine.stands_for c.know_all.new.engine
-          (weights_of net tree (learned H qs))) (sym more)
-          (subst (λ (K : List Entry). g.E.Engine.stands_for c.know_all.new.engine
-          (weights_of net tree K)) (sym (learned_pair H ps (is_at k v)))
+          holds_after (λ (K : List Entry). g.E.Engine.stands_for c.know_all.new.engine
+          (weights_of net tree K)) H more (learned_pair H ps (is_at k v))
           (c.know_all.ensures net (learned H ps)
           (c.best_value-value.ensures.kept (weights_of net tree (learned H ps))
-          (c.loop-variable.invariant.learned_so_far H h))));
+          (c.loop-variable.invariant.learned_so_far H h)));
       found = λ H h few.
           subst (λ (qs : List Pair). AreFound net H (k + 1) qs) (sym more)
           (found_more net H k ps v
