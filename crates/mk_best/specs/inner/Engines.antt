@@ -34,26 +34,24 @@ module _ {E : Type 0} (stands_for : E → Meaning → Type 0) where
     pub tree_of_it : IsTreeOf network tree
     pub in_range : ArePairsOf network pairs
 
-  -- the engine has the weights of a history of this network, whose pairs these are, and of no more
-  -- trades than a market takes
-  pub record CanAsk (engine : E) (network : List Variable) (tree : GivenTree) (pairs : List Pair) :
-      Type 0 where
+  -- the engine has the weights of a history of this network, of no more trades than a market takes,
+  -- and what is asked is in its range
+  pub record CanAskWhat (engine : E) (network : List Variable) (tree : GivenTree)
+      (is_in_range : Type 0) : Type 0 where
     pub history : List Entry
     pub stands : stands_for engine (weights_of network tree history)
     pub legal : IsNetwork network
     pub tree_of_it : IsTreeOf network tree
     pub few_trades : length (trades history) ≤ max_market_trades
-    pub in_range : ArePairsOf network pairs
+    pub in_range : is_in_range
 
-  -- and so for one pair
-  pub record CanAskPair (engine : E) (network : List Variable) (tree : GivenTree) (pair : Pair) :
-      Type 0 where
-    pub history : List Entry
-    pub stands : stands_for engine (weights_of network tree history)
-    pub legal : IsNetwork network
-    pub tree_of_it : IsTreeOf network tree
-    pub few_trades : length (trades history) ≤ max_market_trades
-    pub in_range : IsPairOf network pair
+  -- so for pairs
+  abbrev pub CanAsk : E → List Variable → GivenTree → List Pair → Type 0
+  CanAsk engine network tree pairs = CanAskWhat engine network tree (ArePairsOf network pairs)
+
+  -- and for one
+  abbrev pub CanAskPair : E → List Variable → GivenTree → Pair → Type 0
+  CanAskPair engine network tree pair = CanAskWhat engine network tree (IsPairOf network pair)
 
 -- the share of the states with all pairs among those that are left; or none is left
 abbrev pub IsLeftFor : List Variable → List Entry → List Pair → Chance → Type 0
