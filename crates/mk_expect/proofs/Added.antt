@@ -1,6 +1,6 @@
 -- What one entry of a user adds, and what many do.
 use Rattle.std.proofs.Common.{◌≡◌, ℕ, ◌+◌, ◌*◌, ◌^◌, cond, eqb, List, [], ◌∷◌, ◌++◌}
-use Rattle.std.proofs.Common.{length, refl, sym, arith, eq-eqb}
+use Rattle.std.proofs.Common.{length, refl, sym, subst, arith, eq-eqb}
 use Rattle.std.proofs.Common.{ne_eqb}
 use Rattle.std.proofs.lemmas.List.Sums.{sum_by_push}
 use Rattle.mk_net.specs.Asked.{TradeRatio}
@@ -9,6 +9,8 @@ use Rattle.mk_states.specs.Events.{always}
 use Rattle.mk_exact.specs.History.{Entry, Deposit, Withdraw, Trade, bits_in}
 use Rattle.mk_exact.specs.History.{bits_out}
 use Rattle.mk_exact.specs.Weight.{total}
+use Rattle.mk_history.specs.declared.entry.Entry.{Entry as Read}
+use Rattle.mk_history.specs.Entries.{change_of}
 use Rattle.mk_expect.specs.declared.tally.Tally.{Tally}
 use Rattle.mk_expect.specs.inner.Parts.{values_gained, values_owed, entry_gained, entry_owed}
 use Rattle.mk_expect.specs.inner.Parts.{own_trade}
@@ -55,18 +57,25 @@ module _ (network : List Variable) (H : List Entry) (bits : ℕ → ℕ) (u : �
   none_plus : (z n : ℕ) → n ≡ z * (0 * 2 ^ 20) + n
   none_plus z n = omega arith
 
-  -- a transfer
-  pub deposit_adds : (v n : ℕ)
-      → AddsUp t whole (whole * (cond (eqb v u) n 0 * 2 ^ 20)) (whole * (0 * 2 ^ 20))
-      (cond (eqb v u) n 0) 0 0
-      → AddsEntry network H bits u (Deposit v n) t
-  deposit_adds v n = adds_same t whole _ _ _ _ _ _ (plus_none _) (plus_none _)
+  -- what is read of a history adds what the change that it is adds
+  pub adds_as : {given e : Read} → given ≡ e → AddsEntry network H bits u (change_of e) t
+      → AddsEntry network H bits u (change_of given) t
+  adds_as is adds = subst (λ (x : Read). AddsEntry network H bits u (change_of x) t) (sym is) adds
 
-  pub withdrawal_adds : (v n : ℕ)
-      → AddsUp t whole (whole * (0 * 2 ^ 20)) (whole * (cond (eqb v u) n 0 * 2 ^ 20)) 0
-      (cond (eqb v u) n 0) 0
+  -- a transfer, by the bits of it that are the user's
+  pub deposit_adds : (v n : ℕ) {own : ℕ} → own ≡ cond (eqb v u) n 0
+      → AddsUp t whole (whole * (own * 2 ^ 20)) (whole * (0 * 2 ^ 20)) own 0 0
+      → AddsEntry network H bits u (Deposit v n) t
+  deposit_adds v n is h =
+      adds_same t whole _ _ _ _ _ _ (plus_none _) (plus_none _)
+      (subst (λ (k : ℕ). AddsUp t whole (whole * (k * 2 ^ 20)) (whole * (0 * 2 ^ 20)) k 0 0) is h)
+
+  pub withdrawal_adds : (v n : ℕ) {own : ℕ} → own ≡ cond (eqb v u) n 0
+      → AddsUp t whole (whole * (0 * 2 ^ 20)) (whole * (own * 2 ^ 20)) 0 own 0
       → AddsEntry network H bits u (Withdraw v n) t
-  withdrawal_adds v n = adds_same t whole _ _ _ _ _ _ (plus_none _) (plus_none _)
+  withdrawal_adds v n is h =
+      adds_same t whole _ _ _ _ _ _ (plus_none _) (plus_none _)
+      (subst (λ (k : ℕ). AddsUp t whole (whole * (0 * 2 ^ 20)) (whole * (k * 2 ^ 20)) 0 k 0) is h)
 
   -- an entry that moves nothing of the user's
   abbrev AddsNothing : Type 0

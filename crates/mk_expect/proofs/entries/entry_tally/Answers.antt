@@ -1,4 +1,4 @@
-use Rattle.std.proofs.Common.{ℕ, ◌*◌, ◌^◌, sym, subst, inl, inr}
+use Rattle.std.proofs.Common.{sym, subst, inl, inr}
 use Rattle.mk_net.specs.Trades.{trade_ratio}
 use Rattle.mk_states.specs.Events.{always}
 use Rattle.mk_exact.specs.Weight.{total}
@@ -6,9 +6,8 @@ use Rattle.mk_history.specs.declared.entry.Entry.{Entry}
 use Rattle.mk_history.specs.Entries.{change_of}
 use Rattle.mk_expect.specs.inner.Added.{AddsEntry}
 use Rattle.mk_expect.specs.inner.Shares.{FitsEntry}
-use Rattle.mk_expect.proofs.Added.{deposit_adds, withdrawal_adds, other_adds, own_adds}
+use Rattle.mk_expect.proofs.Added.{adds_as, deposit_adds, withdrawal_adds, other_adds, own_adds}
 use Rattle.mk_expect.proofs.Added.{nothing_adds}
-use Rattle.mk_expect.specs.inner.Tallies.{AddsUp}
 use Rattle.mk_expect.proofs.entries.entry_tally.Goals as goal
 
 pub trade_tally-requires : goal.trade_tally-requires
@@ -26,8 +25,7 @@ trade_tally-requires g c =
 
 pub returns-then-owner-user-clause-adds : goal.returns-then-owner-user-clause-adds
 returns-then-owner-user-clause-adds g c = λ network H has bits are.
-    subst (λ (e : Entry). AddsEntry network H bits c.args.user (change_of e) c.trade_tally.result)
-    (sym c.in-Trade.is)
+    adds_as network H bits c.args.user c.trade_tally.result c.in-Trade.is
     (own_adds network H bits c.args.user c.trade_tally.result c.in-Trade.owner
     (trade_ratio c.in-Trade.ratio) c.if-owner-user.true
     (c.trade_tally.ensures.tally network H has bits are) c.trade_tally.ensures.within
@@ -35,29 +33,24 @@ returns-then-owner-user-clause-adds g c = λ network H has bits are.
 
 pub returns-else-owner-user-clause-adds : goal.returns-else-owner-user-clause-adds
 returns-else-owner-user-clause-adds g c = λ network H has bits are.
-    subst (λ (e : Entry). AddsEntry network H bits c.args.user (change_of e) c.bits_tally.result)
-    (sym c.in-Trade.is)
+    adds_as network H bits c.args.user c.bits_tally.result c.in-Trade.is
     (other_adds network H bits c.args.user c.bits_tally.result c.in-Trade.owner
     (trade_ratio c.in-Trade.ratio) c.if-owner-user.false
     (c.bits_tally.ensures (total network H always)))
 
 pub returns-in-Deposit-clause-adds : goal.returns-in-Deposit-clause-adds
 returns-in-Deposit-clause-adds g c = λ network H has bits are.
-    let whole = total network H always in let t = c.bits_tally-in-Deposit.result in
-    subst (λ (e : Entry). AddsEntry network H bits c.args.user (change_of e) t)
-    (sym c.in-Deposit.is)
+    let t = c.bits_tally-in-Deposit.result in
+    adds_as network H bits c.args.user t c.in-Deposit.is
     (deposit_adds network H bits c.args.user t c.in-Deposit.owner c.in-Deposit.bits
-    (subst (λ (n : ℕ). AddsUp t whole (whole * (n * 2 ^ 20)) (whole * (0 * 2 ^ 20)) n 0 0)
-    c.own_bits.ensures (c.bits_tally-in-Deposit.ensures whole)))
+    c.own_bits.ensures (c.bits_tally-in-Deposit.ensures (total network H always)))
 
 pub returns-in-Withdraw-clause-adds : goal.returns-in-Withdraw-clause-adds
 returns-in-Withdraw-clause-adds g c = λ network H has bits are.
-    let whole = total network H always in let t = c.bits_tally-in-Withdraw.result in
-    subst (λ (e : Entry). AddsEntry network H bits c.args.user (change_of e) t)
-    (sym c.in-Withdraw.is)
+    let t = c.bits_tally-in-Withdraw.result in
+    adds_as network H bits c.args.user t c.in-Withdraw.is
     (withdrawal_adds network H bits c.args.user t c.in-Withdraw.owner c.in-Withdraw.bits
-    (subst (λ (n : ℕ). AddsUp t whole (whole * (0 * 2 ^ 20)) (whole * (n * 2 ^ 20)) 0 n 0)
-    c.own_bits-in-Withdraw.ensures (c.bits_tally-in-Withdraw.ensures whole)))
+    c.own_bits-in-Withdraw.ensures (c.bits_tally-in-Withdraw.ensures (total network H always)))
 
 pub returns-in-Join-clause-adds : goal.returns-in-Join-clause-adds
 returns-in-Join-clause-adds g c = λ network H has bits are.
