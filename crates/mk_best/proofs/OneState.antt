@@ -3,6 +3,7 @@ use Rattle.std.proofs.Common.{◌≡◌, ℕ, zero, suc, ◌+◌, ◌<◌, ◌�
 use Rattle.std.proofs.Common.{cond, ◌&&◌, eqb, List, [], ◌∷◌, ◌++◌, filter, length, slice_index}
 use Rattle.std.proofs.Common.{refl, sym, ap, ap₂, ◌∙◌, arith, eq-eqb, ne_eqb}
 use Rattle.std.proofs.lemmas.Bool.{cases_eq}
+use Rattle.std.proofs.lemmas.Bool.Decides.{nat_tests}
 use Rattle.std.proofs.Math.Path.{fun_ext}
 use Rattle.mk_states.specs.States.{states, numbers_below, plus_over, IsState}
 use Rattle.mk_states.specs.InitialWeight.{value_at}
@@ -27,11 +28,7 @@ values_are k [] = refl
 values_are k (x ∷ xs) = ap (λ ys. x ∷ ys) (values_are (suc k) xs)
 
 swapped : (a b : ℕ) → eqb a b ≡ eqb b a
-swapped a b = at (cases_eq a b)
-  where
-    at : ((a ≡ b) ⊎ (a ≡ b → ⊥)) → eqb a b ≡ eqb b a
-    at (inl e) = eq-eqb a b e ∙ sym (eq-eqb b a (sym e))
-    at (inr d) = ne_eqb a b d ∙ sym (ne_eqb b a (λ e. d (sym e)))
+swapped a b = grind (arith, nat_tests)
 
 -- one value more in front
 pub shifted : (k : ℕ) (s : List ℕ) (v : ℕ) (t : List ℕ)
