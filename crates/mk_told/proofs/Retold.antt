@@ -11,106 +11,36 @@ use Rattle.mk_record.specs.declared.users.Member.{Member}
 use Rattle.mk_record.specs.Members.{names_of}
 use Rattle.mk_reply.specs.declared.payments.Payment.{Payment}
 use Rattle.mk_reply.specs.declared.reply.Reply.{Reply}
-use Rattle.mk_reply.specs.declared.reply.Reply.TheVariants.{Joined, Deposited, Withdrawn, Resolved}
-use Rattle.mk_reply.specs.declared.reply.Reply.TheVariants.{Added}
 
-pub joined_again : (told : Reply) (user name : List ℕ) (at next : ℕ) (found : Bool)
-    → told ≡ Joined user at → true ≡ same_text user name → ((found ≡ true) ↔ (at ≡ next))
-    → (found ≡ true) ↔ (told ≡ Joined name next)
-joined_again told user name at next found is same when = (
-  λ yes. is ∙ ap₂ (λ (u : List ℕ) (n : ℕ). Joined u n)
-      (equal_of_same_text user name (sym same)) (when.0 yes),
-  λ agrees. when.1 (let e : Joined user at ≡ Joined name next = sym is ∙ agrees in cc),
+-- a reply that is `made` of a thing and a revision tells of another thing and revision where both are the same
+pub told_again : {A : Type 0} (made : A → ℕ → Reply) (told : Reply) (a b : A) (at next : ℕ)
+    (found : Bool) → told ≡ made a at → a ≡ b → (made a at ≡ made b next → at ≡ next)
+    → ((found ≡ true) ↔ (at ≡ next)) → (found ≡ true) ↔ (told ≡ made b next)
+told_again made told a b at next found is same apart when = (
+  λ yes. is ∙ ap₂ made same (when.0 yes),
+  λ agrees. when.1 (apart (sym is ∙ agrees)),
 )
 
-pub joined_by_another : (told : Reply) (user name : List ℕ) (at next : ℕ) (found : Bool)
-    → told ≡ Joined user at → false ≡ same_text user name → found ≡ false
-    → (found ≡ true) ↔ (told ≡ Joined name next)
-joined_by_another told user name at next found is other none = (
-  λ yes. absurd (cc),
-  λ agrees.
-      let e : Joined user at ≡ Joined name next = sym is ∙ agrees in
-      let same : user ≡ name = cc in
-      let yes : same_text user name ≡ true = same_text_of_equal user name same in
-      absurd (cc),
+-- a reply tells of nothing else than it does
+pub told_otherwise : (told given wanted : Reply) (found : Bool) → told ≡ given
+    → (given ≡ wanted → ⊥) → found ≡ false → (found ≡ true) ↔ (told ≡ wanted)
+told_otherwise told given wanted found is differs none = (
+  λ yes. absurd (let no : true ≡ false = sym yes ∙ none in cc),
+  λ agrees. absurd (differs (sym is ∙ agrees)),
 )
 
-pub deposited_again : (told : Reply) (user name : List ℕ) (moved bits at next : ℕ) (found : Bool)
-    → told ≡ Deposited user moved at → moved ≡ bits → true ≡ same_text user name
-    → ((found ≡ true) ↔ (at ≡ next)) → (found ≡ true) ↔ (told ≡ Deposited name bits next)
-deposited_again told user name moved bits at next found is as_many same when = (
-  λ yes.
-      let who = equal_of_same_text user name (sym same) in
-      let then = when.0 yes in
-      is ∙ ap₂ (λ (u : List ℕ) (n : ℕ). Deposited u moved n) who then
-      ∙ ap (λ (k : ℕ). Deposited name k next) as_many,
-  λ agrees.
-      when.1 (let e : Deposited user moved at ≡ Deposited name bits next = sym is ∙ agrees in cc),
-)
+pub equal_names : (user name : List ℕ) → true ≡ same_text user name → user ≡ name
+equal_names user name same = equal_of_same_text user name (sym same)
 
-pub deposited_by_another : (told : Reply) (user name : List ℕ) (moved bits at next : ℕ)
-    (found : Bool) → told ≡ Deposited user moved at → false ≡ same_text user name → found ≡ false
-    → (found ≡ true) ↔ (told ≡ Deposited name bits next)
-deposited_by_another told user name moved bits at next found is other none = (
-  λ yes. absurd (cc),
-  λ agrees.
-      let e : Deposited user moved at ≡ Deposited name bits next = sym is ∙ agrees in
-      let same : user ≡ name = cc in
-      let yes : same_text user name ≡ true = same_text_of_equal user name same in
-      absurd (cc),
-)
-
-pub withdrawn_again : (told : Reply) (user name : List ℕ) (moved bits at next : ℕ) (found : Bool)
-    → told ≡ Withdrawn user moved at → moved ≡ bits → true ≡ same_text user name
-    → ((found ≡ true) ↔ (at ≡ next)) → (found ≡ true) ↔ (told ≡ Withdrawn name bits next)
-withdrawn_again told user name moved bits at next found is as_many same when = (
-  λ yes.
-      let who = equal_of_same_text user name (sym same) in
-      let then = when.0 yes in
-      is ∙ ap₂ (λ (u : List ℕ) (n : ℕ). Withdrawn u moved n) who then
-      ∙ ap (λ (k : ℕ). Withdrawn name k next) as_many,
-  λ agrees.
-      when.1 (let e : Withdrawn user moved at ≡ Withdrawn name bits next = sym is ∙ agrees in cc),
-)
-
-pub withdrawn_by_another : (told : Reply) (user name : List ℕ) (moved bits at next : ℕ)
-    (found : Bool) → told ≡ Withdrawn user moved at → false ≡ same_text user name → found ≡ false
-    → (found ≡ true) ↔ (told ≡ Withdrawn name bits next)
-withdrawn_by_another told user name moved bits at next found is other none = (
-  λ yes. absurd (cc),
-  λ agrees.
-      let e : Withdrawn user moved at ≡ Withdrawn name bits next = sym is ∙ agrees in
-      let same : user ≡ name = cc in
-      let yes : same_text user name ≡ true = same_text_of_equal user name same in
-      absurd (cc),
-)
-
-pub added_again : (told : Reply) (variable name : List ℕ) (at next : ℕ) (found : Bool)
-    → told ≡ Added variable at → true ≡ same_text variable name → ((found ≡ true) ↔ (at ≡ next))
-    → (found ≡ true) ↔ (told ≡ Added name next)
-added_again told variable name at next found is same when = (
-  λ yes. is ∙ ap₂ (λ (v : List ℕ) (n : ℕ). Added v n)
-      (equal_of_same_text variable name (sym same)) (when.0 yes),
-  λ agrees. when.1 (let e : Added variable at ≡ Added name next = sym is ∙ agrees in cc),
-)
-
-pub another_added : (told : Reply) (variable name : List ℕ) (at next : ℕ) (found : Bool)
-    → told ≡ Added variable at → false ≡ same_text variable name → found ≡ false
-    → (found ≡ true) ↔ (told ≡ Added name next)
-another_added told variable name at next found is other none = (
-  λ yes. absurd (cc),
-  λ agrees.
-      let e : Added variable at ≡ Added name next = sym is ∙ agrees in
-      let same : variable ≡ name = cc in
-      let yes : same_text variable name ≡ true = same_text_of_equal variable name same in
-      absurd (cc),
-)
+pub unlike_names : (user name : List ℕ) → false ≡ same_text user name → user ≡ name → ⊥
+unlike_names user name other same =
+    let no : false ≡ true = other ∙ same_text_of_equal user name same in absurd (cc)
 
 -- two pairs of words are the same, or not
 abbrev pub same_pair : PairText → PairText → Bool
 same_pair pair words = same_text pair.variable words.variable && same_text pair.value words.value
 
-equal_of_same_pair : (pair words : PairText) → true ≡ same_pair pair words → pair ≡ words
+pub equal_of_same_pair : (pair words : PairText) → true ≡ same_pair pair words → pair ≡ words
 equal_of_same_pair pair words same =
     let parts = both (same_text pair.variable words.variable)
     (same_text pair.value words.value) (sym same) in
@@ -124,28 +54,11 @@ same_pair_refl pair = rw (
   same_text_of_equal pair.value pair.value refl,
 ) refl
 
-pub resolved_again : (told : Reply) (pair words : PairText) (at next : ℕ) (found : Bool)
-    → told ≡ Resolved pair at → true ≡ same_pair pair words → ((found ≡ true) ↔ (at ≡ next))
-    → (found ≡ true) ↔ (told ≡ Resolved words next)
-resolved_again told pair words at next found is same when = (
-  λ yes. is ∙ ap₂ (λ (p : PairText) (n : ℕ). Resolved p n)
-      (equal_of_same_pair pair words same) (when.0 yes),
-  λ agrees. when.1 (let e : Resolved pair at ≡ Resolved words next = sym is ∙ agrees in cc),
-)
-
-pub resolved_otherwise : (told : Reply) (pair words : PairText) (at next : ℕ) (found : Bool)
-    → told ≡ Resolved pair at → false ≡ same_pair pair words → found ≡ false
-    → (found ≡ true) ↔ (told ≡ Resolved words next)
-resolved_otherwise told pair words at next found is other none = (
-  λ yes. absurd (cc),
-  λ agrees.
-      let e : Resolved pair at ≡ Resolved words next = sym is ∙ agrees in
-      let same : pair ≡ words = cc in
-      let yes : same_pair pair words ≡ true =
-      ap (λ (p : PairText). same_pair pair p) (sym same) ∙ same_pair_refl pair in
-      let no : true ≡ false = sym yes ∙ sym other in
-      absurd (cc),
-)
+pub unlike_pairs : (pair words : PairText) → false ≡ same_pair pair words → pair ≡ words → ⊥
+unlike_pairs pair words other same =
+    let yes : same_pair pair words ≡ true =
+    ap (λ (p : PairText). same_pair pair p) (sym same) ∙ same_pair_refl pair in
+    let no : false ≡ true = other ∙ yes in absurd (cc)
 
 -- a payment to another user than the next
 user_at : (payments : List Payment) (u : ℕ) (other : Payment) → u < length payments
