@@ -23,7 +23,7 @@ fn value_of(state: &[u32], variable: u32) -> u32
 }
 
 /// Whether a state has the value of each pair.
-fn holds(pairs: &[Pair], state: &[u32]) -> bool
+pub(crate) fn holds(pairs: &[Pair], state: &[u32]) -> bool
     ensures { result ≡ holds pairs.now state.now }
 {
     for pair in pairs {
