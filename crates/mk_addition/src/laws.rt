@@ -1,6 +1,7 @@
 //! Laws of the texts of added questions.
 
 ghost use Rattle.std.specs.Prelude.{◌≡◌, ◌≤◌, length, MatchResult};
+ghost use Rattle.mk_addition.specs.Below.{MAX_LINE_BYTES};
 ghost use Rattle.mk_addition.specs.Adds.{IsAddText, add_text};
 ghost use Rattle.mk_addition.specs.declared.add.AddText.{AddText};
 
@@ -23,7 +24,7 @@ pub fn longest_add()
 /// What is read of the text of an added question: the same question.
 pub fn read_printed<'a>(add: &AddText, words: &'a mut AddText) -> Result<&'a AddText, Syntax>
     requires fits { IsAddText add.now }
-    requires short { length (add_text add.now) ≤ 1024 }
+    requires short { length (add_text add.now) ≤ MAX_LINE_BYTES }
     ensures { MatchResult result (λ read. read.now ≡ add.now) (λ _. ⊥) }
 {
     let mut text = ArrayString::new();

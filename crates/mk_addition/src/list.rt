@@ -2,6 +2,7 @@
 
 ghost use Rattle.std.specs.Prelude.{◌≡◌, ◌+◌, ◌-◌, ◌*◌, ◌^◌, ◌<◌, ◌≤◌, ◌++◌};
 ghost use Rattle.std.specs.Prelude.{length, option_map};
+ghost use Rattle.mk_addition.specs.Below.{MAX_LINE_BYTES};
 ghost use Rattle.mk_addition.specs.Below.{array_vec_len, array_string_len, items_text, IsRestOf};
 ghost use Rattle.mk_addition.specs.Below.{Finds, never};
 ghost use Rattle.mk_addition.specs.Adds.{joined};
@@ -11,6 +12,7 @@ use crate::row::read_row;
 use crate::writable::Writable;
 use arrayvec::{ArrayString, ArrayVec};
 use mk_names::Name;
+use mk_names::limits::MAX_LINE_BYTES;
 use mk_net::Row;
 use mk_text::Reader;
 
@@ -85,8 +87,13 @@ fn read_more<T: Readable, const N: usize>(
 }
 
 /// Writes things with a separator between them, as many as there is room for.
-pub(crate) fn put_list<T: Writable>(out: &mut ArrayString<1024>, separator: &str, things: &[T])
-    requires { array_string_len out.old + length (joined separator.now T.text things.now) ≤ 1024 }
+pub(crate) fn put_list<T: Writable>(
+    out: &mut ArrayString<MAX_LINE_BYTES>,
+    separator: &str,
+    things: &[T],
+)
+    requires { array_string_len out.old + length (joined separator.now T.text things.now)
+        ≤ MAX_LINE_BYTES }
     ensures { out.new.bytes ≡ out.old.bytes ++ joined separator.now T.text things.now }
 {
     if let [first, rest @ ..] = things {
@@ -95,9 +102,9 @@ pub(crate) fn put_list<T: Writable>(out: &mut ArrayString<1024>, separator: &str
     }
 }
 
-fn put_more<T: Writable>(out: &mut ArrayString<1024>, separator: &str, things: &[T])
+fn put_more<T: Writable>(out: &mut ArrayString<MAX_LINE_BYTES>, separator: &str, things: &[T])
     requires { array_string_len out.old
-        + length (items_text separator.now T.text things.now) ≤ 1024 }
+        + length (items_text separator.now T.text things.now) ≤ MAX_LINE_BYTES }
     ensures { out.new.bytes ≡ out.old.bytes ++ items_text separator.now T.text things.now }
 {
     for thing in things {

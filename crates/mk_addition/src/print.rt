@@ -1,6 +1,7 @@
 //! Writing the words of an added question.
 
 ghost use Rattle.std.specs.Prelude.{◌≡◌, ◌+◌, ◌≤◌, ◌++◌, length};
+ghost use Rattle.mk_addition.specs.Below.{MAX_LINE_BYTES};
 ghost use Rattle.arrayvec.specs.ArrayString.{array_string_len};
 ghost use Rattle.mk_addition.specs.Adds.{add_text, addition_text, parents_text};
 ghost use Rattle.mk_addition.specs.Adds.{shares_text, place_text};
@@ -10,11 +11,12 @@ use crate::list::put_list;
 use crate::writable::Writable;
 use arrayvec::ArrayString;
 use mk_names::Name;
+use mk_names::limits::MAX_LINE_BYTES;
 
 /// Puts the text of an added question into `out`, in place of what it held. The text must have at
 /// most 1,024 bytes, which `text_length` tells.
-pub fn print_add(add: &AddText, out: &mut ArrayString<1024>)
-    requires { length (add_text add.now) ≤ 1024 }
+pub fn print_add(add: &AddText, out: &mut ArrayString<MAX_LINE_BYTES>)
+    requires { length (add_text add.now) ≤ MAX_LINE_BYTES }
     ensures { out.new.bytes ≡ add_text add.now }
 {
     out.clear();
@@ -23,8 +25,8 @@ pub fn print_add(add: &AddText, out: &mut ArrayString<1024>)
 }
 
 /// Adds what stands behind the word `add `, for which there must be room.
-pub fn put_addition(out: &mut ArrayString<1024>, add: &AddText)
-    requires { array_string_len out.old + length (addition_text add.now) ≤ 1024 }
+pub fn put_addition(out: &mut ArrayString<MAX_LINE_BYTES>, add: &AddText)
+    requires { array_string_len out.old + length (addition_text add.now) ≤ MAX_LINE_BYTES }
     ensures { out.new.bytes ≡ out.old.bytes ++ addition_text add.now }
 {
     add.variable.put(out);
@@ -34,8 +36,8 @@ pub fn put_addition(out: &mut ArrayString<1024>, add: &AddText)
     put_shares(out, add);
 }
 
-fn put_parents(out: &mut ArrayString<1024>, parents: &[Name])
-    requires { array_string_len out.old + length (parents_text parents.now) ≤ 1024 }
+fn put_parents(out: &mut ArrayString<MAX_LINE_BYTES>, parents: &[Name])
+    requires { array_string_len out.old + length (parents_text parents.now) ≤ MAX_LINE_BYTES }
     ensures { out.new.bytes ≡ out.old.bytes ++ parents_text parents.now }
 {
     if !parents.is_empty() {
@@ -44,8 +46,8 @@ fn put_parents(out: &mut ArrayString<1024>, parents: &[Name])
     }
 }
 
-fn put_shares(out: &mut ArrayString<1024>, add: &AddText)
-    requires { array_string_len out.old + length (shares_text add.now) ≤ 1024 }
+fn put_shares(out: &mut ArrayString<MAX_LINE_BYTES>, add: &AddText)
+    requires { array_string_len out.old + length (shares_text add.now) ≤ MAX_LINE_BYTES }
     ensures { out.new.bytes ≡ out.old.bytes ++ shares_text add.now }
 {
     out.push_str(" : ");
@@ -54,8 +56,8 @@ fn put_shares(out: &mut ArrayString<1024>, add: &AddText)
     put_place(out, add);
 }
 
-fn put_place(out: &mut ArrayString<1024>, add: &AddText)
-    requires { array_string_len out.old + length (place_text add.now) ≤ 1024 }
+fn put_place(out: &mut ArrayString<MAX_LINE_BYTES>, add: &AddText)
+    requires { array_string_len out.old + length (place_text add.now) ≤ MAX_LINE_BYTES }
     ensures { out.new.bytes ≡ out.old.bytes ++ place_text add.now }
 {
     put_list(out, ",", add.clique.as_slice());

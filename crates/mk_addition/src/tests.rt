@@ -3,6 +3,7 @@
 use crate::{AddText, print_add, read_add, text_length};
 use arrayvec::{ArrayString, ArrayVec};
 use mk_names::Name;
+use mk_names::limits::MAX_LINE_BYTES;
 use mk_net::{Row, Syntax};
 use std::process::Abort;
 
@@ -152,9 +153,9 @@ fn words_of(rt: &impl Abort, case: &Case) -> AddText {
 
 /// Stops unless these words are printed as this text, of this length.
 fn prints(rt: &impl Abort, text: &str, words: &AddText) {
-    let length = text_length(words);
-    assert_eq!(rt; length as usize, text.len(), "{text}");
-    assert!(rt; length <= 1024, "{text}");
+    let length = text_length(words) as usize;
+    assert_eq!(rt; length, text.len(), "{text}");
+    assert!(rt; length <= MAX_LINE_BYTES, "{text}");
     let mut printed = ArrayString::new();
     print_add(words, &mut printed);
     assert_eq!(rt; printed.as_str(), text);

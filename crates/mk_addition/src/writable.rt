@@ -1,12 +1,14 @@
 //! Things of which a list may be written.
 
 ghost use Rattle.std.specs.Prelude.{◌≡◌, ◌+◌, ◌≤◌, ◌++◌, length};
+ghost use Rattle.mk_addition.specs.Below.{MAX_LINE_BYTES};
 ghost use Rattle.arrayvec.specs.ArrayString.{array_string_len};
 
 use crate::list::{list_length, put_list};
 use arrayvec::ArrayString;
 use itoa::Buffer;
 use mk_names::Name;
+use mk_names::limits::MAX_LINE_BYTES;
 use mk_net::Row;
 use std::str;
 
@@ -19,8 +21,8 @@ pub(crate) trait Writable {
     ghost most: { ℕ };
 
     /// Adds its text, for which there must be room.
-    fn put(&self, out: &mut ArrayString<1024>)
-        requires { array_string_len out.old + length (text self.now) ≤ 1024 }
+    fn put(&self, out: &mut ArrayString<MAX_LINE_BYTES>)
+        requires { array_string_len out.old + length (text self.now) ≤ MAX_LINE_BYTES }
         ensures { out.new.bytes ≡ out.old.bytes ++ text self.now };
 
     /// How long its text is.
@@ -34,7 +36,7 @@ impl Writable for Name {
 
     ghost most = { 32 };
 
-    fn put(&self, out: &mut ArrayString<1024>) {
+    fn put(&self, out: &mut ArrayString<MAX_LINE_BYTES>) {
         match str::from_utf8(self.bytes()) {
             Ok(text) => out.push_str(text),
             Err(_) => unreachable!(),
@@ -53,7 +55,7 @@ impl Writable for u32 {
 
     ghost most = { 10 };
 
-    fn put(&self, out: &mut ArrayString<1024>) {
+    fn put(&self, out: &mut ArrayString<MAX_LINE_BYTES>) {
         out.push_str(Buffer::new().format(*self));
     }
 
@@ -69,7 +71,7 @@ impl Writable for Row {
 
     ghost most = { 176 };
 
-    fn put(&self, out: &mut ArrayString<1024>) {
+    fn put(&self, out: &mut ArrayString<MAX_LINE_BYTES>) {
         put_list(out, " ", self.numbers());
     }
 

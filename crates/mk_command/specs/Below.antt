@@ -1,4 +1,5 @@
 -- What clauses of this crate cite of the crates below it.
+pub use Rattle.mk_names.specs.declared.limits.TheConstants.{MAX_LINE_BYTES}
 pub use Rattle.arrayvec.specs.ArrayString.{array_string_len}
 pub use Rattle.mk_text.specs.Joined.{AreSeveral, spaced, ◌&◌}
 pub use Rattle.mk_text.specs.Numbers.{IsShort}

@@ -1,6 +1,7 @@
 -- Commands, and how they are written.
 use Rattle.std.specs.Prelude.{ℕ, ◌≤◌, List, length, codes, decimal, Option, IfSome, ⊤}
 use Rattle.mk_addition.specs.Adds.{IsAddText, add_text}
+use Rattle.mk_names.specs.declared.limits.TheConstants.{MAX_LINE_BYTES}
 use Rattle.mk_names.specs.Name.{IsName}
 use Rattle.mk_text.specs.Joined.{◌&◌, perhaps_text, spaced, AreSeveral}
 use Rattle.mk_text.specs.Numbers.{IsShort}
@@ -79,7 +80,7 @@ IsCommand (Prices variable condition) = IsName variable × IsCondition condition
 IsCommand (Position user variable condition) =
     IsName user × IsName variable × IsCondition condition.items
 IsCommand Status = ⊤
-IsCommand (Add addition) = IsAddText addition × (length (add_text addition) ≤ 1024)
+IsCommand (Add addition) = IsAddText addition × (length (add_text addition) ≤ MAX_LINE_BYTES)
 
 -- its numbers have at most nine digits, a distribution is 2 to 16 of them, and the text of an added
 -- question has at most 1,024 bytes
@@ -100,4 +101,4 @@ HasShortNumbers Bound = ⊤
 HasShortNumbers (Prices variable condition) = ⊤
 HasShortNumbers (Position user variable condition) = ⊤
 HasShortNumbers Status = ⊤
-HasShortNumbers (Add addition) = length (add_text addition) ≤ 1024
+HasShortNumbers (Add addition) = length (add_text addition) ≤ MAX_LINE_BYTES

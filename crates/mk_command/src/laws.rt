@@ -1,6 +1,7 @@
 //! Laws of the texts of commands.
 
 ghost use Rattle.std.specs.Prelude.{◌≡◌, ◌≢◌, ◌<◌, ◌≤◌, length, MatchResult};
+ghost use Rattle.mk_command.specs.Below.{MAX_LINE_BYTES};
 ghost use Rattle.mk_addition.specs.declared.add.AddText.{AddText};
 ghost use Rattle.mk_command.specs.Commands.{IsCommand, command_of, command_text};
 ghost use Rattle.mk_command.specs.declared.command.Command.{Command};
@@ -20,9 +21,9 @@ pub fn one_command_each()
 
 /// The text of each command has at most 1,024 bytes, and fewer where it adds no question.
 pub fn short_commands()
-    ensures most { (c : Command) → IsCommand c → length (command_text c) ≤ 1024 }
+    ensures most { (c : Command) → IsCommand c → length (command_text c) ≤ MAX_LINE_BYTES }
     ensures others { (c : Command) → IsCommand c → ((a : AddText) → c ≢ Add a) →
-        length (command_text c) < 1024 }
+        length (command_text c) < MAX_LINE_BYTES }
 {}
 
 /// What is read of the text of a command: the same command.

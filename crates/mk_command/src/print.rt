@@ -1,6 +1,7 @@
 //! Writing a command.
 
 ghost use Rattle.std.specs.Prelude.{◌≡◌, ◌≤◌, ◌<◌, ◌+◌, ◌^◌, ◌++◌, length, codes, decimal, IfSome};
+ghost use Rattle.mk_command.specs.Below.{MAX_LINE_BYTES};
 ghost use Rattle.mk_command.specs.Below.{array_string_len, IsShort, ◌&◌, spaced, AreSeveral};
 ghost use Rattle.mk_command.specs.Below.{condition_text, question_text};
 ghost use Rattle.mk_command.specs.Commands.{HasShortNumbers, command_text, at_text};
@@ -10,13 +11,14 @@ use crate::command::Command;
 use arrayvec::ArrayString;
 use mk_addition::print_add;
 use mk_names::Name;
+use mk_names::limits::MAX_LINE_BYTES;
 use mk_net::{PairText, QuestionText};
 use mk_text::{put_condition, put_name, put_numbers, put_pair, put_question, put_short};
 
 /// Puts the text of a command into `out`, in place of what it held. Its numbers must be below 10^9,
 /// and the text of an added question must have at most 1,024 bytes, which
 /// `mk_addition::text_length` tells.
-pub fn print_command(command: &Command, out: &mut ArrayString<1024>)
+pub fn print_command(command: &Command, out: &mut ArrayString<MAX_LINE_BYTES>)
     requires { HasShortNumbers command.now }
     ensures { out.new.bytes ≡ command_text command.now }
 {
@@ -58,7 +60,7 @@ pub fn print_command(command: &Command, out: &mut ArrayString<1024>)
 }
 
 // The text of a command that speaks of every value of a variable.
-fn put_of_values(out: &mut ArrayString<1024>, command: &Command)
+fn put_of_values(out: &mut ArrayString<MAX_LINE_BYTES>, command: &Command)
     requires values { IsOfValues command.now }
     requires numbers { HasShortNumbers command.now }
     requires empty { array_string_len out.old ≡ 0 }
@@ -104,8 +106,8 @@ fn put_of_values(out: &mut ArrayString<1024>, command: &Command)
     }
 }
 
-fn put_user(out: &mut ArrayString<1024>, word: &str, user: &Name)
-    requires { array_string_len out.old + length word.now + 32 ≤ 1024 }
+fn put_user(out: &mut ArrayString<MAX_LINE_BYTES>, word: &str, user: &Name)
+    requires { array_string_len out.old + length word.now + 32 ≤ MAX_LINE_BYTES }
     ensures text { out.new.bytes ≡ out.old.bytes ++ (word.now ++ user.now) }
     ensures growth { array_string_len out.new ≤ array_string_len out.old + length word.now + 32 }
 {
@@ -113,9 +115,9 @@ fn put_user(out: &mut ArrayString<1024>, word: &str, user: &Name)
     put_name(out, user);
 }
 
-fn put_transfer(out: &mut ArrayString<1024>, word: &str, user: &Name, bits: u32)
+fn put_transfer(out: &mut ArrayString<MAX_LINE_BYTES>, word: &str, user: &Name, bits: u32)
     requires short { IsShort bits }
-    requires room { array_string_len out.old + length word.now + 42 ≤ 1024 }
+    requires room { array_string_len out.old + length word.now + 42 ≤ MAX_LINE_BYTES }
     ensures { out.new.bytes ≡ out.old.bytes ++ (word.now & user.now & codes " " & decimal bits) }
 {
     put_user(out, word, user);
@@ -123,8 +125,8 @@ fn put_transfer(out: &mut ArrayString<1024>, word: &str, user: &Name, bits: u32)
     put_short(out, bits);
 }
 
-fn put_asked(out: &mut ArrayString<1024>, question: &QuestionText)
-    requires { array_string_len out.old + 603 ≤ 1024 }
+fn put_asked(out: &mut ArrayString<MAX_LINE_BYTES>, question: &QuestionText)
+    requires { array_string_len out.old + 603 ≤ MAX_LINE_BYTES }
     ensures text { out.new.bytes ≡ out.old.bytes ++ (codes " " ++ question_text question.now) }
     ensures growth { array_string_len out.new ≤ array_string_len out.old + 603 }
 {
@@ -132,9 +134,9 @@ fn put_asked(out: &mut ArrayString<1024>, question: &QuestionText)
     put_question(out, question);
 }
 
-fn put_values_asked(out: &mut ArrayString<1024>, variable: &Name, condition: &[PairText])
+fn put_values_asked(out: &mut ArrayString<MAX_LINE_BYTES>, variable: &Name, condition: &[PairText])
     requires few { length condition.now ≤ 8 }
-    requires room { array_string_len out.old + 570 ≤ 1024 }
+    requires room { array_string_len out.old + 570 ≤ MAX_LINE_BYTES }
     ensures text { out.new.bytes ≡ out.old.bytes ++ (codes " " ++ (variable.now ++ condition_text condition.now)) }
     ensures growth { array_string_len out.new ≤ array_string_len out.old + 570 }
 {
@@ -143,9 +145,9 @@ fn put_values_asked(out: &mut ArrayString<1024>, variable: &Name, condition: &[P
     put_condition(out, condition);
 }
 
-fn put_move(out: &mut ArrayString<1024>, to: u32, at: Option<u32>)
+fn put_move(out: &mut ArrayString<MAX_LINE_BYTES>, to: u32, at: Option<u32>)
     requires short { IsShort to × IfSome at IsShort }
-    requires room { array_string_len out.old + 26 ≤ 1024 }
+    requires room { array_string_len out.old + 26 ≤ MAX_LINE_BYTES }
     ensures { out.new.bytes ≡ out.old.bytes ++ (codes " to " ++ (decimal to ++ at_text at)) }
 {
     out.push_str(" to ");
@@ -153,10 +155,10 @@ fn put_move(out: &mut ArrayString<1024>, to: u32, at: Option<u32>)
     put_at(out, at);
 }
 
-fn put_moves(out: &mut ArrayString<1024>, to: &[u32], at: Option<u32>)
+fn put_moves(out: &mut ArrayString<MAX_LINE_BYTES>, to: &[u32], at: Option<u32>)
     requires numbers { AreSeveral IsShort to.now }
     requires short { IfSome at IsShort }
-    requires room { array_string_len out.old + 177 ≤ 1024 }
+    requires room { array_string_len out.old + 177 ≤ MAX_LINE_BYTES }
     ensures { out.new.bytes ≡ out.old.bytes ++ (codes " to " ++ (spaced decimal to.now ++ at_text at)) }
 {
     out.push_str(" to ");
@@ -164,9 +166,9 @@ fn put_moves(out: &mut ArrayString<1024>, to: &[u32], at: Option<u32>)
     put_at(out, at);
 }
 
-fn put_at(out: &mut ArrayString<1024>, at: Option<u32>)
+fn put_at(out: &mut ArrayString<MAX_LINE_BYTES>, at: Option<u32>)
     requires short { IfSome at IsShort }
-    requires room { array_string_len out.old + 13 ≤ 1024 }
+    requires room { array_string_len out.old + 13 ≤ MAX_LINE_BYTES }
     ensures { out.new.bytes ≡ out.old.bytes ++ at_text at }
 {
     if let Some(at) = at {

@@ -12,6 +12,7 @@ ghost use Rattle.mk_command.specs.declared.command.Command.{Command};
 
 use crate::command::{CommandRef, Words};
 use mk_addition::{read_addition, text_length};
+use mk_names::limits::MAX_LINE_BYTES;
 use mk_net::Syntax;
 use mk_text::{Item, Reader, several};
 
@@ -291,7 +292,7 @@ fn add<'a>(reader: &mut Reader, words: &'a mut Words) -> Option<CommandRef<'a>>
 {
     read_addition(reader, &mut words.addition)?;
     let addition = &words.addition;
-    if text_length(addition) > 1024 {
+    if text_length(addition) > MAX_LINE_BYTES as u32 {
         return None;
     }
     Some(CommandRef::Add { addition })

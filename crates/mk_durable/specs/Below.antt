@@ -8,6 +8,7 @@ pub use Rattle.mk_journal.specs.Moments.{LeavesOnly}
 pub use Rattle.mk_journal.specs.Opening.{contents}
 pub use Rattle.mk_journal.specs.Store.{begun, IsUnstarted, StandsFor}
 pub use Rattle.mk_market.specs.Suited.{SuitsNext}
+pub use Rattle.mk_names.specs.declared.limits.TheConstants.{MAX_RECORD_BYTES}
 pub use Rattle.mk_reply.specs.Replies.{reply_text}
 pub use Rattle.mk_session.specs.Below.{file_of, HasCause, IsAt, IsMarket, IsTreeOf, Market}
 pub use Rattle.mk_session.specs.Below.{market_of, opening, Rose}

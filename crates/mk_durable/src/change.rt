@@ -1,6 +1,7 @@
 //! The record of one change, and how it is kept.
 
 ghost use Rattle.std.specs.Prelude.{◌≡◌, ◌+◌, ◌<◌, ◌≤◌, ◌^◌, ℕ, List, [], ◌∷◌, ◌++◌, length, OnOk};
+ghost use Rattle.mk_durable.specs.Below.{MAX_RECORD_BYTES};
 ghost use Rattle.mk_durable.specs.Below.{HasShortNumbers, command_text, reply_text, HasCause};
 ghost use Rattle.mk_durable.specs.Below.{IsHeld, IsReady, IsFront, LeavesOnly};
 
@@ -8,16 +9,17 @@ use arrayvec::{ArrayString, ArrayVec};
 use mk_command::{Command, print_command};
 use mk_disk::{Disk, DiskFailed};
 use mk_journal::{Keeper, Store};
+use mk_names::limits::{MAX_ANSWER_BYTES, MAX_LINE_BYTES, MAX_RECORD_BYTES};
 use mk_reply::{Reply, print_reply};
 
 /// Puts the record of a change into `room`, in place of what it held.
-fn put_record(command: &Command, reply: &Reply, room: &mut ArrayVec<u8, 34000>)
+fn put_record(command: &Command, reply: &Reply, room: &mut ArrayVec<u8, MAX_RECORD_BYTES>)
     requires { HasShortNumbers command.now }
     ensures record { room.new.items ≡ command_text command.now ++ 10 ∷ reply_text reply.now }
-    ensures size { length room.new.items ≤ 34000 }
+    ensures size { length room.new.items ≤ MAX_RECORD_BYTES }
 {
-    let mut line = ArrayString::<1024>::new();
-    let mut text = ArrayString::<32768>::new();
+    let mut line = ArrayString::<MAX_LINE_BYTES>::new();
+    let mut text = ArrayString::<MAX_ANSWER_BYTES>::new();
     print_command(command, &mut line);
     print_reply(reply, &mut text);
     room.clear();
@@ -56,7 +58,7 @@ pub(crate) fn keep_change<K: Disk>(
         (records ++ (command_text command.now ++ 10 ∷ reply_text reply.now) ∷ [])
         (length records)) }
 {
-    let mut record = ArrayVec::<u8, 34000>::new();
+    let mut record = ArrayVec::<u8, MAX_RECORD_BYTES>::new();
     put_record(command, reply, &mut record);
     store.take(disk, record.as_slice())?;
     store.keep(disk)

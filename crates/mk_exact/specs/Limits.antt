@@ -1,6 +1,6 @@
 -- Right limits of an edit, for the exact numbers of its question.
 use Rattle.std.specs.Prelude.{ℕ, ◌+◌, ◌-◌, ◌*◌, ◌/◌, ◌^◌, ◌<◌, ◌≤◌, Option, Some, None, ◌↔◌}
-use Rattle.mk_net.specs.Bounds.{number_limit, million}
+use Rattle.mk_net.specs.Bounds.{number_limit, million, max_share}
 use Rattle.mk_states.specs.Ratios.{unit}
 use Rattle.mk_exact.specs.Factors.{Fraction}
 use Rattle.mk_exact.specs.Prices.{IsFair, IsSolvent}
@@ -32,13 +32,13 @@ Inside (Some (low, high)) X = (low ≤ X) × (X ≤ high)
 -- limits are none, or lie in order within 1 to 999,999
 abbrev pub IsWithinRange : Option (ℕ × ℕ) → Type 0
 IsWithinRange None = Unit {0}
-IsWithinRange (Some (low, high)) = (1 ≤ low) × (low ≤ high) × (high ≤ 999999)
+IsWithinRange (Some (low, high)) = (1 ≤ low) × (low ≤ high) × (high ≤ max_share)
 
 -- limits are right: what is inside can be traded, what can well be traded is inside, and in the small case exactly that
 pub record AreRight (small : Type 0) (hit miss : Side) (limits : Option (ℕ × ℕ)) : Type 0 where
   pub in_range : IsWithinRange limits
   pub sound : (X : ℕ) → Inside limits X
       → (F_t : ℕ) × (F_n : ℕ) × IsFairAndSolvent small hit X F_t × IsFairAndSolvent small miss (million - X) F_n
-  pub near_complete : (X : ℕ) → 1 ≤ X → X ≤ 999999 → IsWanted hit X → IsWanted miss (million - X) → Inside limits X
-  pub exact : small → (X : ℕ) → 1 ≤ X → X ≤ 999999
+  pub near_complete : (X : ℕ) → 1 ≤ X → X ≤ max_share → IsWanted hit X → IsWanted miss (million - X) → Inside limits X
+  pub exact : small → (X : ℕ) → 1 ≤ X → X ≤ max_share
       → Inside limits X ↔ (IsFloorSolvent hit X × IsFloorSolvent miss (million - X))

@@ -9,3 +9,4 @@ pub use Rattle.mk_tree.specs.Checked.{IsTreeOf}
 pub use Rattle.mk_tree.specs.Tests.{tree_fault}
 pub use Rattle.toml.specs.Data.{as_bool, as_integer, as_str, as_table, get_member}
 pub use Rattle.toml.specs.View.{table_view, view}
+pub use Rattle.mk_names.specs.declared.limits.TheConstants.{MAX_ANSWER_BYTES}

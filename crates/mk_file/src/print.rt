@@ -1,6 +1,7 @@
 //! Writing the line of a refused market file.
 
 ghost use Rattle.std.specs.Prelude.{◌≡◌, ◌≢◌, ◌+◌, ◌<◌, ◌≤◌, ◌++◌, length, codes};
+ghost use Rattle.mk_file.specs.Below.{MAX_ANSWER_BYTES};
 ghost use Rattle.arrayvec.specs.ArrayString.{array_string_len};
 ghost use Rattle.mk_file.specs.declared.fault.FileFault.TheVariants.{Memory};
 ghost use Rattle.mk_file.specs.Faults.{fault_text, cause_text, place_text, then_number, then_signed};
@@ -9,16 +10,17 @@ use crate::fault::FileFault;
 use arrayvec::ArrayString;
 use itoa::Buffer;
 use mk_names::Key;
+use mk_names::limits::MAX_ANSWER_BYTES;
 use mk_text::put_number;
 
 /// The line of a fault, which has room for the longest.
-type Line = ArrayString<32768>;
+type Line = ArrayString<MAX_ANSWER_BYTES>;
 
 /// Puts the line of a refused market file into `out`, in place of what it held. Want of memory has no line.
-pub fn print_fault(fault: &FileFault, out: &mut ArrayString<32768>)
+pub fn print_fault(fault: &FileFault, out: &mut ArrayString<MAX_ANSWER_BYTES>)
     requires { fault.now ≢ Memory }
     ensures text { out.new.bytes ≡ fault_text fault.now }
-    ensures room { array_string_len out.new < 32768 }
+    ensures room { array_string_len out.new < MAX_ANSWER_BYTES }
 {
     out.clear();
     out.push_str("refused market ");
@@ -27,7 +29,7 @@ pub fn print_fault(fault: &FileFault, out: &mut ArrayString<32768>)
 
 fn put_cause(out: &mut Line, fault: &FileFault)
     requires known { fault.now ≢ Memory }
-    requires room { array_string_len out.old + 100 ≤ 32768 }
+    requires room { array_string_len out.old + 100 ≤ MAX_ANSWER_BYTES }
     ensures text { out.new.bytes ≡ out.old.bytes ++ cause_text fault.now }
     ensures growth { array_string_len out.new ≤ array_string_len out.old + 100 }
 {
@@ -58,7 +60,7 @@ fn put_cause(out: &mut Line, fault: &FileFault)
 }
 
 fn put_place(out: &mut Line, word: &str, key: Key, place: u32)
-    requires { array_string_len out.old + length word.now + 35 ≤ 32768 }
+    requires { array_string_len out.old + length word.now + 35 ≤ MAX_ANSWER_BYTES }
     ensures text { out.new.bytes ≡ out.old.bytes ++ (word.now ++ place_text key place) }
     ensures growth { array_string_len out.new ≤ array_string_len out.old + length word.now + 35 }
 {
@@ -68,7 +70,7 @@ fn put_place(out: &mut Line, word: &str, key: Key, place: u32)
 }
 
 fn put_count(out: &mut Line, key: Key, place: u32, n: i64)
-    requires { array_string_len out.old + 62 ≤ 32768 }
+    requires { array_string_len out.old + 62 ≤ MAX_ANSWER_BYTES }
     ensures text { out.new.bytes ≡ out.old.bytes ++ (codes "count " ++ (place_text key place ++ then_signed n)) }
     ensures growth { array_string_len out.new ≤ array_string_len out.old + 62 }
 {
@@ -77,7 +79,7 @@ fn put_count(out: &mut Line, key: Key, place: u32, n: i64)
 }
 
 fn put_at(out: &mut Line, word: &str, number: u32)
-    requires { array_string_len out.old + length word.now + 21 ≤ 32768 }
+    requires { array_string_len out.old + length word.now + 21 ≤ MAX_ANSWER_BYTES }
     ensures text { out.new.bytes ≡ out.old.bytes ++ (word.now ++ then_number number) }
     ensures growth { array_string_len out.new ≤ array_string_len out.old + length word.now + 21 }
 {
@@ -86,7 +88,7 @@ fn put_at(out: &mut Line, word: &str, number: u32)
 }
 
 fn put_rows(out: &mut Line, variable: u32, n: i64)
-    requires { array_string_len out.old + 46 ≤ 32768 }
+    requires { array_string_len out.old + 46 ≤ MAX_ANSWER_BYTES }
     ensures text { out.new.bytes ≡ out.old.bytes ++ (codes "rows" ++ (then_number variable ++ then_signed n)) }
     ensures growth { array_string_len out.new ≤ array_string_len out.old + 46 }
 {
@@ -95,7 +97,7 @@ fn put_rows(out: &mut Line, variable: u32, n: i64)
 }
 
 fn put_row(out: &mut Line, word: &str, variable: u32, row: u32, n: i64)
-    requires { array_string_len out.old + length word.now + 63 ≤ 32768 }
+    requires { array_string_len out.old + length word.now + 63 ≤ MAX_ANSWER_BYTES }
     ensures text { out.new.bytes ≡ out.old.bytes ++ (word.now ++ (then_number variable ++ (then_number row ++ then_signed n))) }
     ensures growth { array_string_len out.new ≤ array_string_len out.old + length word.now + 63 }
 {
@@ -105,7 +107,7 @@ fn put_row(out: &mut Line, word: &str, variable: u32, row: u32, n: i64)
 }
 
 fn put_entry(out: &mut Line, variable: u32, row: u32, column: u32)
-    requires { array_string_len out.old + 68 ≤ 32768 }
+    requires { array_string_len out.old + 68 ≤ MAX_ANSWER_BYTES }
     ensures text { out.new.bytes ≡ out.old.bytes ++ (codes "entry" ++ (then_number variable ++ (then_number row ++ then_number column))) }
     ensures growth { array_string_len out.new ≤ array_string_len out.old + 68 }
 {
@@ -115,7 +117,7 @@ fn put_entry(out: &mut Line, variable: u32, row: u32, column: u32)
 }
 
 fn put_next(out: &mut Line, number: u32)
-    requires { array_string_len out.old + 21 ≤ 32768 }
+    requires { array_string_len out.old + 21 ≤ MAX_ANSWER_BYTES }
     ensures text { out.new.bytes ≡ out.old.bytes ++ then_number number }
     ensures growth { array_string_len out.new ≤ array_string_len out.old + 21 }
 {
@@ -124,7 +126,7 @@ fn put_next(out: &mut Line, number: u32)
 }
 
 fn put_signed(out: &mut Line, number: i64)
-    requires { array_string_len out.old + 21 ≤ 32768 }
+    requires { array_string_len out.old + 21 ≤ MAX_ANSWER_BYTES }
     ensures text { out.new.bytes ≡ out.old.bytes ++ then_signed number }
     ensures growth { array_string_len out.new ≤ array_string_len out.old + 21 }
 {

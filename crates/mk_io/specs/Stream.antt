@@ -1,10 +1,11 @@
 -- The lines of a stream of bytes, as the product counts them.
 use Rattle.std.specs.Prelude.{◌≡◌, ℕ, List, [], ◌∷◌, ◌++◌, length, map, Bool, true, false, ◌==◌, nat_lt, if◌then◌else◌, ◌⊎◌}
 use Rattle.std.specs.List.{list_all}
+use Rattle.mk_names.specs.declared.limits.TheConstants.{MAX_LINE_BYTES}
 
 -- the greatest number of bytes before a line's LF, of lines of a stream, and of its bytes
 abbrev pub max_line_bytes : ℕ
-max_line_bytes = 1024
+max_line_bytes = MAX_LINE_BYTES
 
 abbrev pub max_stream_lines : ℕ
 max_stream_lines = 1000000

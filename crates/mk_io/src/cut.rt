@@ -1,6 +1,7 @@
 //! The cutting of one line.
 
-ghost use Rattle.std.specs.Prelude.{◌≡◌, ℕ, ◌≤◌, List, Option, Contains, length};
+ghost use Rattle.std.specs.Prelude.{◌≡◌, ℕ, ◌+◌, ◌≤◌, List, Option, Contains, length};
+ghost use Rattle.mk_io.specs.Stream.{max_line_bytes};
 ghost use Rattle.mk_io.specs.Outside.{LeavesRest, prepend_known};
 ghost use Rattle.mk_io.specs.inner.Cut.{CutsLine, CountsCutFault, IsWhole};
 
@@ -24,7 +25,7 @@ pub enum Cut {
 /// Takes the bytes of a line up to its LF, of which there may be `room`, and keeps the first of them. A line that was read whole is
 /// taken at once.
 pub fn cut_line<I: Inputs>(pending: &mut Pending, text: &mut Text, inputs: &mut I, room: u64) -> Cut
-    ensures cut { CutsLine result 1025 text.new room
+    ensures cut { CutsLine result (max_line_bytes + 1) text.new room
         (prepend_known pending.old (I.commands inputs.old)) pending.new (I.commands inputs.new) }
     ensures rest { LeavesRest (I.market inputs.old) (I.market inputs.new) (I.file inputs.old) (I.file inputs.new) }
     ensures cause { CountsCutFault result (I.faults inputs.old) (I.faults inputs.new) }
@@ -44,7 +45,7 @@ pub fn cut_line<I: Inputs>(pending: &mut Pending, text: &mut Text, inputs: &mut 
 /// The same, byte by byte.
 #[inline(never)]
 fn cut_by_bytes<I: Inputs>(pending: &mut Pending, text: &mut Text, inputs: &mut I, room: u64) -> Cut
-    ensures cut { CutsLine result 1025 text.new room
+    ensures cut { CutsLine result (max_line_bytes + 1) text.new room
         (prepend_known pending.old (I.commands inputs.old)) pending.new (I.commands inputs.new) }
     ensures rest { LeavesRest (I.market inputs.old) (I.market inputs.new) (I.file inputs.old) (I.file inputs.new) }
     ensures cause { CountsCutFault result (I.faults inputs.old) (I.faults inputs.new) }

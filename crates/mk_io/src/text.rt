@@ -4,12 +4,11 @@ ghost use Rattle.std.specs.Prelude.{◌≡◌, ℕ, ◌+◌, List, [], ◌∷◌
 ghost use Rattle.mk_io.specs.Stream.{max_line_bytes};
 ghost use Rattle.mk_io.specs.inner.Cut.{front, Settles};
 
+use mk_names::limits::MAX_LINE_BYTES;
 use std::marker::Model;
 
-const MAX_LINE_BYTES: usize = 1024;
-
 // one more than a line may have, so that a longer one shows
-const TEXT_BYTES: usize = 1025;
+const TEXT_BYTES: usize = MAX_LINE_BYTES + 1;
 
 /// The first bytes of a line: one more than a line may have.
 #[derive(Drop)]
@@ -19,13 +18,14 @@ pub struct Text {
 }
 
 impl Model for Text {
-    ghost use Rattle.std.specs.Prelude.{ℕ, ◌≤◌, List, take};
+    ghost use Rattle.std.specs.Prelude.{ℕ, ◌+◌, ◌≤◌, List, take};
+    ghost use Rattle.mk_io.specs.Stream.{max_line_bytes};
 
     ghost Value = { List ℕ };
 
     ghost view = { λ t. take t.len t.buf };
 
-    ghost invariant = { λ t. t.len ≤ 1025 };
+    ghost invariant = { λ t. t.len ≤ max_line_bytes + 1 };
 }
 
 impl Text {
@@ -48,7 +48,7 @@ impl Text {
 
     /// Puts the first bytes of some in place of those that are there, as many as there is room for.
     pub fn put(&mut self, bytes: &[u8])
-        ensures { self.new ≡ front 1025 bytes.now }
+        ensures { self.new ≡ front (max_line_bytes + 1) bytes.now }
     {
         let count = bytes.len().min(TEXT_BYTES);
         self.buf[..count].copy_from_slice(&bytes[..count]);
@@ -57,7 +57,7 @@ impl Text {
 
     /// Adds a byte where there is room for it.
     pub fn push(&mut self, byte: u8)
-        ensures { self.new ≡ front 1025 (self.old ++ byte ∷ []) }
+        ensures { self.new ≡ front (max_line_bytes + 1) (self.old ++ byte ∷ []) }
     {
         if self.len < TEXT_BYTES {
             self.buf[self.len] = byte;

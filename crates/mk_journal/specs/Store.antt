@@ -1,11 +1,12 @@
 -- The store file: a header for one market file, and records, each behind a gate.
 use Rattle.std.specs.Prelude.{◌≡◌, ◌≢◌, ◌⊎◌, ℕ, ◌+◌, ◌<◌, ◌≤◌, List, [], ◌∷◌, ◌++◌, length, Option, Some, None, if◌then◌else◌, ◌==◌, All}
 use Rattle.std.specs.Int.{w32, w64, to_be_bytes}
+use Rattle.mk_names.specs.declared.limits.TheConstants.{MAX_RECORD_BYTES}
 
 -- the number of bytes that a record may have
 pub record IsLength (n : ℕ) : Type 0 where
   pub least : 1 ≤ n
-  pub most : n ≤ 34000
+  pub most : n ≤ MAX_RECORD_BYTES
 
 abbrev pub AreRecords : List (List ℕ) → Type 0
 AreRecords records = All (λ r. IsLength (length r)) records

@@ -1,6 +1,7 @@
 //! Records that wait to be made durable together.
 
 ghost use Rattle.std.specs.Prelude.{◌≡◌, ◌↔◌, ℕ, ◌+◌, ◌^◌, ◌<◌, ◌≤◌, List, [], ◌∷◌, ◌++◌, length, IsTrue, IfSome, IfOk, OnOk, OnErr};
+ghost use Rattle.mk_names.specs.declared.limits.TheConstants.{MAX_RECORD_BYTES};
 ghost use Rattle.mk_disk.specs.Disk.{HasCause};
 ghost use Rattle.mk_journal.specs.Store.{IsLength, AreRecords, framed, opened, IsWithOrWithout};
 ghost use Rattle.mk_journal.specs.Kept.{IsSettled};
@@ -45,7 +46,7 @@ impl Group {
 
     /// Whether there is room for a record of so many bytes.
     pub fn has_room(&self, size: usize) -> bool
-        requires { size ≤ 34000 }
+        requires { size ≤ MAX_RECORD_BYTES }
         ensures { IsTrue result ↔ (length self.now + size + 6 ≤ 102400) }
     {
         self.bytes.len() + size + AROUND <= ROOM

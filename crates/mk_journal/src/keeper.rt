@@ -2,6 +2,7 @@
 
 ghost use Rattle.std.specs.Prelude.{◌≡◌, ℕ, ◌+◌, ◌*◌, ◌^◌, ◌<◌, ◌≤◌, List, [], ◌∷◌, ◌++◌, length, IsTrue, IfSome, OnOk, OnErr};
 ghost use Rattle.std.specs.Prelude.{false};
+ghost use Rattle.mk_names.specs.declared.limits.TheConstants.{MAX_RECORD_BYTES};
 ghost use Rattle.mk_disk.specs.Disk.{HasCause};
 ghost use Rattle.mk_journal.specs.Store.{IsLength, AreRecords, opened};
 ghost use Rattle.mk_journal.specs.Kept.{IsSettled};
@@ -177,7 +178,7 @@ impl Store {
 
     // Keeps what waits, unless there is room for a change of so many bytes.
     fn make_room<K: Disk>(&mut self, disk: &mut K, size: usize) -> Result<(), DiskFailed>
-        requires size { size ≤ 34000 }
+        requires size { size ≤ MAX_RECORD_BYTES }
         requires ready { (n : ℕ) × (n < 2 ^ 40) × IsReady (K.is_open disk.old) (K.file disk.old (K.open_name disk.old)) self.old n }
         ensures cause { HasCause (K.faults disk.old) (K.faults disk.new) result }
         ensures stays_name { K.open_name disk.new ≡ K.open_name disk.old }

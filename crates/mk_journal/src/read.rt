@@ -5,9 +5,8 @@ ghost use Rattle.mk_journal.specs.Store.{IsLength, NoRecord, framed};
 ghost use Rattle.mk_journal.specs.Opening.{IfGate};
 ghost use Rattle.mk_journal.specs.inner.Reading.{IsRead};
 
+use mk_names::limits::MAX_RECORD_BYTES;
 use std::alloc::{AllocError, Global};
-
-const MAX_RECORD_BYTES: usize = 34000;
 
 /// What ends the records of a store.
 #[derive(Clone, Copy, Debug, PartialEq, Eq, Drop)]

@@ -6,6 +6,7 @@ pub use Rattle.mk_enclose.specs.Enclosure.{HasGrade}
 pub use Rattle.mk_exact.specs.Limits.{AreRight, IsFairAndSolvent, IsFloorSolvent, IsWanted}
 pub use Rattle.mk_exact.specs.Limits.{IsWithinRange, Side}
 pub use Rattle.mk_exact.specs.Prices.{CoversPrice, IsFair, IsSolvent}
+pub use Rattle.mk_net.specs.Bounds.{max_share}
 pub use Rattle.mk_quote.specs.Bounds.{hit_side, miss_side}
 pub use Rattle.mk_quote.specs.Sides.{AreBoundsOf, AreExact}
 pub use Rattle.mk_quote.specs.Values.{side_in, sides_in}

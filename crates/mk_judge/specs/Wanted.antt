@@ -1,6 +1,6 @@
 -- Which shares are wanted, by ends that lie apart where enclosures leave them open.
 use Rattle.std.specs.Prelude.{ℕ, ◌+◌, ◌*◌, ◌^◌, ◌<◌, ◌≤◌, ◌⊎◌, Option}
-use Rattle.mk_net.specs.Bounds.{million}
+use Rattle.mk_net.specs.Bounds.{million, max_share}
 use Rattle.mk_exact.specs.Limits.{Side, Inside}
 use Rattle.mk_enclose.specs.declared.enclosure.Enclosure.{Enclosure}
 use Rattle.mk_enclose.specs.Enclosure.{HasGrade}
@@ -21,7 +21,7 @@ IsShareNear part whole gain side X =
 pub record IsSomeNear (part whole gain : Enclosure) (side : Side) : Type 0 where
   pub share : ℕ
   pub from : 1 ≤ share
-  pub to : share ≤ 999999
+  pub to : share ≤ max_share
   pub near : IsShareNear part whole gain side share
 
 abbrev pub IsWantedNear : SideBounds → Side → Type 0
@@ -30,7 +30,7 @@ IsWantedNear bounds side = IsSomeNear bounds.part bounds.whole bounds.factor.gai
 -- no share outside of the outer ends is meant, and each within the inner ones is; where the ends
 -- lie apart, something else is known
 pub record HasEnds (wanted : Wanted) (IsMeant : ℕ → Type 0) (otherwise : Type 0) : Type 0 where
-  pub outer : (X : ℕ) → 1 ≤ X → X ≤ 999999 → IsMeant X
+  pub outer : (X : ℕ) → 1 ≤ X → X ≤ max_share → IsMeant X
       → (wanted.outer_low ≤ X) × (X ≤ wanted.outer_high)
   pub inner : (X : ℕ) → wanted.inner_low ≤ X → X ≤ wanted.inner_high → IsMeant X
   pub low : wanted.outer_low < wanted.inner_low → otherwise
@@ -38,8 +38,8 @@ pub record HasEnds (wanted : Wanted) (IsMeant : ℕ → Type 0) (otherwise : Typ
 
 -- each share that is meant lies inside limits: with none, no share is meant
 abbrev pub LieInside : (ℕ → Type 0) → Option (ℕ × ℕ) → Type 0
-LieInside IsMeant limits = (X : ℕ) → 1 ≤ X → X ≤ 999999 → IsMeant X → Inside limits X
+LieInside IsMeant limits = (X : ℕ) → 1 ≤ X → X ≤ max_share → IsMeant X → Inside limits X
 
 -- some share meets a property on a side
 abbrev pub SomeShare : (Side → ℕ → Type 0) → Side → Type 0
-SomeShare P side = (X : ℕ) × (1 ≤ X) × (X ≤ 999999) × P side X
+SomeShare P side = (X : ℕ) × (1 ≤ X) × (X ≤ max_share) × P side X

@@ -1,6 +1,6 @@
 //! Judgements of whole distributions: of the interval of each value, and of its units.
 ghost use Rattle.std.specs.Prelude.{◌≡◌, ◌≤◌, false, List, All, Option, IsTrue, option_map};
-ghost use Rattle.mk_judge.specs.Below.{Side, AreRightBounds, AreFairUnits, sides_in};
+ghost use Rattle.mk_judge.specs.Below.{Side, AreRightBounds, AreFairUnits, sides_in, max_share};
 ghost use Rattle.mk_judge.specs.Distributions.{AreEachSideBounds, HaveTradeRange};
 ghost use Rattle.mk_judge.specs.Distributions.{AreIntervalsNear, AreSomeUnitsNear};
 
@@ -43,7 +43,7 @@ pub fn judge_intervals(
 /// come. Other numbers of shares or of units than of values are wrong.
 pub fn judge_spread_units(bounds: &SpreadBounds, small: bool, xs: &[u32], units: &[u64]) -> Judged
     requires range { HaveTradeRange (sides_in bounds.now) }
-    requires shares { All (λ X. X ≤ 999999) xs.now }
+    requires shares { All (λ X. X ≤ max_share) xs.now }
     ensures allowed { result ≡ Judged.Allowed → (sides : List (Option Side))
         → AreEachSideBounds (sides_in bounds.now) small sides
         → AreFairUnits (IsTrue small) sides xs.now units.now }

@@ -1,6 +1,6 @@
 //! Judgements of the shares that can be traded.
 ghost use Rattle.std.specs.Prelude.{◌≡◌, ℕ, ◌+◌, ◌*◌, ◌^◌, ◌<◌, ◌≤◌, false};
-ghost use Rattle.mk_judge.specs.Below.{number_limit, Side, AreBoundsOf};
+ghost use Rattle.mk_judge.specs.Below.{number_limit, Side, AreBoundsOf, max_share};
 ghost use Rattle.mk_judge.specs.Judged.{Judges};
 ghost use Rattle.mk_judge.specs.Units.{AreSideBounds, HasTradeRange};
 ghost use Rattle.mk_judge.specs.Limits.{CanBeTraded, IsLeastSolvent, AreEndsNear, IsIntervalNear};
@@ -17,7 +17,7 @@ use mk_quote::SideBounds;
 /// the limit of units must reach.
 pub fn judge_tradable(bounds: &SideBounds, low: u32, high: u32) -> Judged
     requires in_order { low ≤ high }
-    requires share { high ≤ 999999 }
+    requires share { high ≤ max_share }
     requires range { HasTradeRange bounds.now.factor }
     ensures allowed { result ≡ Judged.Allowed → (side : Side)
         → AreSideBounds bounds.now false side → CanBeTraded side low high }
@@ -36,7 +36,7 @@ pub fn judge_tradable(bounds: &SideBounds, low: u32, high: u32) -> Judged
 /// Where the least units are known.
 fn compare_shares(bounds: &SideBounds, units: u64, low: u32, high: u32) -> Judged
     requires in_order { low ≤ high }
-    requires share { high ≤ 999999 }
+    requires share { high ≤ max_share }
     requires fits { units < number_limit }
     ensures { (side : Side) → AreBoundsOf bounds.now side → IsLeastSolvent side.least units
         → Judges result (CanBeTraded side low high) (AreEndsNear bounds.now side units low high) }

@@ -2,7 +2,7 @@
 ghost use Rattle.std.specs.Prelude.{◌≡◌, ◌≤◌, false, IsTrue, map, List};
 ghost use Rattle.std.specs.Prelude.{Option, IfSome, option_map};
 ghost use Rattle.mk_judge.specs.Below.{AllZip, AllByRecursion, Side, IsRightFor, IsFairFor};
-ghost use Rattle.mk_judge.specs.Below.{AreFairUnits, side_in};
+ghost use Rattle.mk_judge.specs.Below.{AreFairUnits, side_in, max_share};
 ghost use Rattle.mk_judge.specs.Judged.{Judges};
 ghost use Rattle.mk_judge.specs.Units.{HasTradeRange, AreUnitsNear};
 ghost use Rattle.mk_judge.specs.Questions.{IsSideNear};
@@ -51,7 +51,7 @@ pub fn judge_each_units(
     units: &[u64],
 ) -> Judged
     requires range { HaveTradeRange (map (option_map (side_in bounds.now)) parts.now) }
-    requires shares { AllByRecursion (λ X. X ≤ 999999) xs.now }
+    requires shares { AllByRecursion (λ X. X ≤ max_share) xs.now }
     ensures { (sides : List (Option Side))
         → AreEachSideBounds (map (option_map (side_in bounds.now)) parts.now) small sides
         → Judges result (AreFairUnits (IsTrue small) sides xs.now units.now) ((small ≡ false)
@@ -123,7 +123,7 @@ fn judge_interval_for(side: &Option<SideBounds>, small: bool, low: u32, high: u3
 /// The units of one value for its share: one whole unit for one that cannot come.
 fn judge_units_for(side: &Option<SideBounds>, small: bool, share: u32, units: u64) -> Judged
     requires range { IfSome side.now (λ bounds. HasTradeRange bounds.factor) }
-    requires share { share ≤ 999999 }
+    requires share { share ≤ max_share }
     ensures { (of_value : Option Side) → IsSideFor small side.now of_value
         → Judges result (IsFairFor (IsTrue small) of_value share units) ((small ≡ false)
         × IsOf (λ bounds of_bounds. AreUnitsNear bounds small of_bounds units share) side.now

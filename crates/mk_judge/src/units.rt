@@ -1,7 +1,7 @@
 //! Judgements of the units of a trade.
 ghost use Rattle.std.specs.Prelude.{◌≡◌, ℕ, ◌+◌, ◌*◌, ◌^◌, ◌<◌, ◌≤◌, ⊤, IsTrue};
 ghost use Rattle.mk_judge.specs.Below.{number_limit, Fraction, IsFair, Side, IsFairAndSolvent};
-ghost use Rattle.mk_judge.specs.Below.{Encloses, IsExact};
+ghost use Rattle.mk_judge.specs.Below.{Encloses, IsExact, max_share};
 ghost use Rattle.mk_judge.specs.Judged.{Judges};
 ghost use Rattle.mk_judge.specs.Units.{AreSideBounds, HasTradeRange, IsFairNear, AreUnitsNear};
 
@@ -16,7 +16,7 @@ use mk_quote::SideBounds;
 /// `small` set nothing was rounded, and
 /// the bounds leave nothing open.
 pub fn judge_units(bounds: &SideBounds, small: bool, share: u32, units: u64) -> Judged
-    requires share { share ≤ 999999 }
+    requires share { share ≤ max_share }
     requires range { HasTradeRange bounds.now.factor }
     ensures allowed { result ≡ Judged.Allowed → (side : Side)
         → AreSideBounds bounds.now small side → IsFairAndSolvent (IsTrue small) side share units }
@@ -38,7 +38,7 @@ pub fn judge_units(bounds: &SideBounds, small: bool, share: u32, units: u64) -> 
 
 /// Where the floor of the units for the share is fair, and nothing else.
 fn exactly_fair(part: &Enclosure, whole: &Enclosure, share: u32, units: u64) -> Judged
-    requires share { share ≤ 999999 }
+    requires share { share ≤ max_share }
     requires some { 1 ≤ units }
     requires fits { units < number_limit }
     ensures { (price : Fraction) → Encloses part.now price.num → Encloses whole.now price.den
@@ -53,7 +53,7 @@ fn exactly_fair(part: &Enclosure, whole: &Enclosure, share: u32, units: u64) -> 
 
 /// Where units that are less than that floor by less than one part in `2^30` are fair too.
 fn nearly_fair(part: &Enclosure, whole: &Enclosure, share: u32, units: u64) -> Judged
-    requires share { share ≤ 999999 }
+    requires share { share ≤ max_share }
     requires some { 1 ≤ units }
     requires fits { units < number_limit }
     ensures { (price : Fraction) → Encloses part.now price.num → Encloses whole.now price.den

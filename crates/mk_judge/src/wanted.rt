@@ -1,5 +1,6 @@
 //! Ends of the shares that are wanted.
 ghost use Rattle.std.specs.Prelude.{◌≤◌};
+ghost use Rattle.mk_judge.specs.Below.{max_share};
 
 /// The shares from 1 to 999,999 that are wanted form an interval. No share outside of the outer
 /// ends is wanted, and each within the inner ones is.
@@ -13,5 +14,5 @@ pub struct Wanted {
     ghost low: { outer_low ≤ inner_low },
     ghost low_at_most: { inner_low ≤ 1000000 },
     ghost high: { inner_high ≤ outer_high },
-    ghost high_at_most: { outer_high ≤ 999999 },
+    ghost high_at_most: { outer_high ≤ max_share },
 }

@@ -1,6 +1,6 @@
 //! The shares of one side that are wanted: those that can well be traded.
 ghost use Rattle.std.specs.Prelude.{◌≡◌, ℕ, ◌+◌, ◌*◌, ◌^◌, ◌<◌, ◌≤◌, ◌↔◌, min, false, MatchOption};
-ghost use Rattle.mk_judge.specs.Below.{Side, IsWanted, Encloses};
+ghost use Rattle.mk_judge.specs.Below.{Side, IsWanted, Encloses, max_share};
 ghost use Rattle.mk_judge.specs.Powers.{StandsBeside};
 ghost use Rattle.mk_judge.specs.Units.{AreSideBounds, HasTradeRange};
 ghost use Rattle.mk_judge.specs.Wanted.{IsSomeNear, IsWantedNear, HasEnds};
@@ -68,7 +68,7 @@ fn wanted_by(part: &Enclosure, whole: &Enclosure, gain: &Enclosure, scale: &Scal
 /// The first share that is above one for a part and a product, or a million where none is.
 fn first_share(part: &Scaled, product: &Product, scale: &Scale) -> u32
     ensures at_most { result ≤ 1000000 }
-    ensures first { (X : ℕ) → X ≤ 999999
+    ensures first { (X : ℕ) → X ≤ max_share
         → (result ≤ X) ↔ IsAboveOne scale.now part.now (product_of product.now) X }
 {
     let below = part.exponent() + scale.owed;
@@ -93,8 +93,8 @@ fn capped(shares: Option<u64>) -> u32
 /// The last share that is not far for a part and a whole.
 fn last_share(part: &Scaled, whole: &Scaled) -> u32
     requires positive { 1 ≤ whole.now }
-    ensures at_most { result ≤ 999999 }
-    ensures last { (X : ℕ) → X ≤ 999999
+    ensures at_most { result ≤ max_share }
+    ensures last { (X : ℕ) → X ≤ max_share
         → (X ≤ result) ↔ (X * whole.now ≤ part.now * (1000000 * 2 ^ 22)) }
 {
     match part.div_floor(NOT_FAR, whole, 1) {

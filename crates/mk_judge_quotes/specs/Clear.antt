@@ -2,7 +2,7 @@
 -- are near each other, so that enclosures of them need not show which is greater.
 use Rattle.std.specs.Prelude.{◌≡◌, ℕ, ◌+◌, ◌-◌, ◌*◌, ◌^◌, ◌≤◌, ◌⊎◌, List, Option, Some}
 use Rattle.std.specs.Prelude.{None, slice_get}
-use Rattle.mk_net.specs.Bounds.{million, number_limit}
+use Rattle.mk_net.specs.Bounds.{million, number_limit, max_share}
 use Rattle.mk_net.specs.Asked.{Asked}
 use Rattle.mk_states.specs.Ratios.{unit}
 use Rattle.mk_exact.specs.History.{Entry}
@@ -46,7 +46,7 @@ AreEndsOpen steps idle side n low high =
 pub record IsShareOpen (steps : ℕ) (side : Side) : Type 0 where
   pub share : ℕ
   pub some : 1 ≤ share
-  pub few : share ≤ 999999
+  pub few : share ≤ max_share
   pub near : AreNear (side.least.den * million * side.price.num * (2 ^ 19 + 1))
       (side.least.num * share * side.price.den * 2 ^ 19) steps
       ⊎ AreNear (share * side.price.den) (2 ^ 22 * million * side.price.num) steps

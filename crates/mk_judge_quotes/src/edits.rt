@@ -5,7 +5,7 @@ ghost use Rattle.std.specs.Prelude.{◌<◌, ◌≤◌, ◌↔◌, List, None, M
 ghost use Rattle.mk_net.specs.declared.words.QuestionText.{QuestionText};
 ghost use Rattle.mk_judge_quotes.specs.Below.{Entry, Inside, Market, Judges, HasTradeRange};
 ghost use Rattle.mk_judge_quotes.specs.Below.{user_number, IsLimits, IsTrade, IsJudged};
-ghost use Rattle.mk_judge_quotes.specs.Below.{IsJudgedAfresh};
+ghost use Rattle.mk_judge_quotes.specs.Below.{IsJudgedAfresh, max_share};
 ghost use Rattle.mk_quote.specs.Bounds as side;
 ghost use Rattle.mk_reply.specs.declared.reply.Reply.TheVariants.{Refused};
 ghost use Rattle.mk_reply.specs.declared.refusal.Refusal.TheVariants.{Beyond};
@@ -55,7 +55,7 @@ pub fn judge_edit(
     requires hit_range { HasTradeRange bounds.now.hit_factor }
     requires miss_range { HasTradeRange bounds.now.miss_factor }
     requires some { 1 ≤ to }
-    requires few { to ≤ 999999 }
+    requires few { to ≤ max_share }
     ensures { (market : Market) (H : List Entry) (name : List ℕ) (q : QuestionText)
         → (its : AreEditBounds market H name q bounds.now small now)
         → Judges result

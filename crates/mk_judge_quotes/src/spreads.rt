@@ -5,7 +5,7 @@ ghost use Rattle.std.specs.Prelude.{◌≡◌, ℕ, ◌≤◌, ◌↔◌, List, 
 ghost use Rattle.std.specs.Prelude.{option_map, option_copied};
 ghost use Rattle.mk_judge_quotes.specs.Below.{Entry, AllZip, Inside, Market, InsideEach, sides_in};
 ghost use Rattle.mk_judge_quotes.specs.Below.{Judges, HaveTradeRange, given_in, user_number};
-ghost use Rattle.mk_judge_quotes.specs.Below.{IsBounds, IsSpreadTrade, IsSpreadJudged};
+ghost use Rattle.mk_judge_quotes.specs.Below.{IsBounds, IsSpreadTrade, IsSpreadJudged, max_share};
 ghost use Rattle.mk_judge_quotes.specs.Below.{IsSpreadJudgedAfresh};
 ghost use Rattle.arrayvec.specs.ArrayVec.{ArrayVec as TheArrayVec};
 ghost use Rattle.mk_net.specs.declared.words.PairText.{PairText};
@@ -56,7 +56,7 @@ pub fn judge_spread(
     reply: &Reply,
 ) -> Judged
     requires range { HaveTradeRange (sides_in bounds.now) }
-    requires shares { All (λ X. X ≤ 999999) to.now }
+    requires shares { All (λ X. X ≤ max_share) to.now }
     ensures { (market : Market) (H : List Entry) (name : List ℕ) (v : List ℕ)
         (condition : TheArrayVec PairText)
         → (its : AreEachBounds market H name v condition bounds.now small now)

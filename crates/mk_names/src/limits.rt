@@ -1,6 +1,6 @@
-//! How much there may be of each thing in a market, and the parts in which shares, prices and
-//! ratios are counted. Definitions read the limits from here; they write the parts of a price, and
-//! those of a ratio, as powers.
+//! How much there may be of each thing in a market, in its lines and in its store, and the parts in
+//! which shares, prices and ratios are counted. Definitions read the limits from here; they write
+//! the parts of a price, and those of a ratio, as powers.
 
 /// The most variables of a network.
 pub const MAX_VARIABLES: u32 = 256;
@@ -46,3 +46,9 @@ pub const PRICE_UNIT: u64 = 10_000_000_000;
 pub const RATIO_PLACES: u32 = 40;
 /// The parts of a ratio.
 pub const RATIO_UNIT: u64 = 1 << RATIO_PLACES;
+/// The most bytes of a line of commands, without its LF, and the room in which one is printed.
+pub const MAX_LINE_BYTES: usize = 1_024;
+/// The most bytes of a line of the output, with its LF: a reply, or what is wrong with a file.
+pub const MAX_ANSWER_BYTES: usize = 32_768;
+/// The most bytes of a record of a store: a command, LF and the text of its reply.
+pub const MAX_RECORD_BYTES: usize = 34_000;

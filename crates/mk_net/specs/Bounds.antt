@@ -18,6 +18,7 @@ use Rattle.mk_names.specs.declared.limits.TheConstants.{
   MAX_PAYMENTS,
   MAX_POINTS_PER_BIT,
   MILLION,
+  MAX_SHARE,
 }
 
 -- variables of a network, values of one, and parents of one
@@ -94,3 +95,7 @@ number_limit = 2 ^ 63
 -- shares and prices that are asked for are parts of a million
 abbrev pub million : ℕ
 million = MILLION
+
+-- the greatest share, and price, that is asked for
+abbrev pub max_share : ℕ
+max_share = MAX_SHARE

@@ -1,6 +1,6 @@
 -- Both sides of a question by bounds: which shares they allow, and what they promise of the exact numbers.
 use Rattle.std.specs.Prelude.{ℕ, ◌-◌, ◌≤◌, ◌↔◌, Bool, ◌&&◌, Option}
-use Rattle.mk_net.specs.Bounds.{million}
+use Rattle.mk_net.specs.Bounds.{million, max_share}
 use Rattle.mk_exact.specs.Limits.{Side, IsFairAndSolvent, Inside, AreRight}
 use Rattle.mk_quote.specs.declared.side.SideBounds.{SideBounds}
 use Rattle.mk_quote.specs.declared.bounds.Bounds.{Bounds}
@@ -38,11 +38,11 @@ is_allowed bounds X = is_served (hit_side bounds) X && is_served (miss_side boun
 
 -- the least and the greatest share that the bounds allow
 abbrev pub limits_for : Bounds → Option (ℕ × ℕ)
-limits_for bounds = span (is_allowed bounds) 999999
+limits_for bounds = span (is_allowed bounds) max_share
 
 -- limits that hold exactly what the bounds allow
 abbrev pub Limit : Bounds → Option (ℕ × ℕ) → Type 0
-Limit bounds limits = (X : ℕ) → 1 ≤ X → X ≤ 999999 → Inside limits X ↔ Allows bounds X
+Limit bounds limits = (X : ℕ) → 1 ≤ X → X ≤ max_share → Inside limits X ↔ Allows bounds X
 
 -- the units are fair and solvent for X, for every two sides that the bounds enclose
 abbrev pub AreFairAndSolvent : Bounds → ℕ → ℕ → ℕ → Type 0

@@ -1,6 +1,6 @@
 -- One side of a question by bounds: the units that an edit of it trades for, and whether they serve.
 use Rattle.std.specs.Prelude.{ℕ, ◌+◌, ◌*◌, ◌/◌, ◌^◌, ◌<◌, ◌≤◌, Bool, ltb, leb, ◌&&◌, Option}
-use Rattle.mk_net.specs.Bounds.{number_limit, million}
+use Rattle.mk_net.specs.Bounds.{number_limit, million, max_share}
 use Rattle.mk_states.specs.Ratios.{unit}
 use Rattle.mk_exact.specs.Limits.{Side}
 use Rattle.mk_enclose.specs.declared.factor.Factor.{Factor}
@@ -50,4 +50,4 @@ is_served bounds X =
 
 -- the least and the greatest share that serve the side
 abbrev pub interval_for : SideBounds → Option (ℕ × ℕ)
-interval_for bounds = span (is_served bounds) 999999
+interval_for bounds = span (is_served bounds) max_share

@@ -1,6 +1,6 @@
 //! Both sides of a question.
 ghost use Rattle.std.specs.Prelude.{◌≡◌, ℕ, ◌-◌, ◌≤◌, MatchOption, IfSome};
-ghost use Rattle.mk_quote.specs.Below.{million, IsWithinRange};
+ghost use Rattle.mk_quote.specs.Below.{million, IsWithinRange, max_share};
 ghost use Rattle.mk_quote.specs.Sides.{ratio_for};
 ghost use Rattle.mk_quote.specs.Bounds.{hit_side, miss_side, Allows, Limit, limits_for, AreFairAndSolvent, AreRightFor};
 
@@ -28,7 +28,7 @@ impl Bounds {
     /// where they would leave one of the user's factors below one, or are `2^63` or more.
     pub fn judge(&self, x: u32) -> Option<(u64, u64)>
         requires positive { 1 ≤ x }
-        requires at_most { x ≤ 999999 }
+        requires at_most { x ≤ max_share }
         ensures allows { MatchOption result (¬ Allows self.now x) (λ units. Allows self.now x) }
         ensures hit { IfSome result (λ units. units.0 ≡ ratio_for (hit_side self.now) x) }
         ensures miss { IfSome result (λ units. units.1 ≡ ratio_for (miss_side self.now) (million - x)) }

@@ -1,5 +1,6 @@
 //! Guesses at the least share that reaches a bound, for the time of the search alone.
 ghost use Rattle.std.specs.Prelude.{◌≤◌, ◌^◌, ◌<◌};
+ghost use Rattle.mk_quote.specs.Below.{max_share};
 
 use crate::SideBounds;
 use crate::interval::Bound;
@@ -13,7 +14,7 @@ impl SideBounds {
     /// A share to begin the search of a bound at: mostly the one that is sought. Any share serves.
     pub(crate) fn guess(&self, bound: Bound) -> u32
         ensures positive { 1 ≤ result }
-        ensures at_most { result ≤ 999999 }
+        ensures at_most { result ≤ max_share }
     {
         match bound {
             Bound::Borne => self.share_for(least_borne(&self.factor)),
@@ -26,7 +27,7 @@ impl SideBounds {
     fn share_for(&self, units: u64) -> u32
         requires { units < 2 ^ 46 }
         ensures positive { 1 ≤ result }
-        ensures at_most { result ≤ 999999 }
+        ensures at_most { result ≤ max_share }
     {
         // A million over `2^40` is 15,625 over `2^34`: divided by 20 of the bits, and then by 14.
         let share = self

@@ -1,7 +1,7 @@
 //! The shares that serve one side of a question.
 ghost use Rattle.std.specs.Prelude.{◌≡◌, ℕ, ◌-◌, ◌<◌, ◌≤◌, ◌↔◌, min};
 ghost use Rattle.std.specs.Prelude.{IsTrue, MatchOption, IfSome};
-ghost use Rattle.mk_quote.specs.Below.{number_limit, Inside, IsWithinRange};
+ghost use Rattle.mk_quote.specs.Below.{number_limit, Inside, IsWithinRange, max_share};
 ghost use Rattle.mk_quote.specs.Sides.{ratio_for, Serves, interval_for};
 ghost use Rattle.mk_quote.specs.inner.Reached.{Reaches, HoldsFirst};
 
@@ -34,7 +34,7 @@ impl SideBounds {
     pub fn interval(&self) -> Option<(u32, u32)>
         ensures value { result ≡ interval_for self.now }
         ensures in_range { IsWithinRange result }
-        ensures serves { (X : ℕ) → 1 ≤ X → X ≤ 999999 → Inside result X ↔ Serves self.now X }
+        ensures serves { (X : ℕ) → 1 ≤ X → X ≤ max_share → Inside result X ↔ Serves self.now X }
     {
         self.served()
     }
@@ -42,7 +42,7 @@ impl SideBounds {
     /// The shares that serve: from the least that the factor bears to the last before those that are too many.
     fn served(&self) -> Option<(u32, u32)>
         ensures in_range { IsWithinRange result }
-        ensures serves { (X : ℕ) → 1 ≤ X → X ≤ 999999 → Inside result X ↔ Serves self.now X }
+        ensures serves { (X : ℕ) → 1 ≤ X → X ≤ max_share → Inside result X ↔ Serves self.now X }
     {
         let low = self.first(Bound::Borne);
         let end = self.first(Bound::TooMany);
@@ -69,7 +69,7 @@ impl SideBounds {
     fn first(&self, bound: Bound) -> u32
         ensures positive { 1 ≤ result }
         ensures at_most { result ≤ 1000000 }
-        ensures first { (X : ℕ) → 1 ≤ X → X ≤ 999999 → (result ≤ X) ↔ Reaches self.now bound X }
+        ensures first { (X : ℕ) → 1 ≤ X → X ≤ max_share → (result ≤ X) ↔ Reaches self.now bound X }
     {
         let guess = self.guess(bound);
         let all = Range {
@@ -110,7 +110,7 @@ impl SideBounds {
 
     /// Whether the units for a share reach a bound.
     fn reaches(&self, x: u32, bound: Bound) -> bool
-        requires { x ≤ 999999 }
+        requires { x ≤ max_share }
         ensures { IsTrue result ↔ Reaches self.now bound x }
     {
         let ratio = self.capped_ratio(x);
@@ -122,7 +122,7 @@ impl SideBounds {
 
     /// The units for a share, or `2^63` where they are more.
     fn capped_ratio(&self, x: u32) -> u64
-        requires { x ≤ 999999 }
+        requires { x ≤ max_share }
         ensures { result ≡ min number_limit (ratio_for self.now x) }
     {
         self.ratio(x).unwrap_or(TOO_MANY)

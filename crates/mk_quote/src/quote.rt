@@ -16,7 +16,7 @@ pub struct Quote {
 
 impl Quote {
     ghost use Rattle.std.specs.Prelude.{◌≡◌, ◌-◌, ◌≤◌, ◌↔◌, MatchOption, IfSome, IsTrue};
-    ghost use Rattle.mk_net.specs.Bounds.{million};
+    ghost use Rattle.mk_net.specs.Bounds.{million, max_share};
     ghost use Rattle.mk_exact.specs.Limits.{Inside, IsWithinRange};
     ghost use Rattle.mk_quote.specs.Sides.{ratio_for};
     ghost use Rattle.mk_quote.specs.Bounds.{hit_side, miss_side, AreFairAndSolvent, AreRightFor};
@@ -64,7 +64,7 @@ impl Quote {
     /// exactly inside the limits.
     pub fn judge(&self, x: u32) -> Option<(u64, u64)>
         requires positive { 1 ≤ x }
-        requires at_most { x ≤ 999999 }
+        requires at_most { x ≤ max_share }
         ensures inside { MatchOption result (¬ Inside (limits_of self.now) x) (λ units. Inside (limits_of self.now) x) }
         ensures hit { IfSome result (λ units. units.0 ≡ ratio_for (hit_side (bounds_of self.now)) x) }
         ensures miss { IfSome result (λ units. units.1 ≡ ratio_for (miss_side (bounds_of self.now)) (million - x)) }

@@ -1,6 +1,6 @@
 //! One side of a question: the states where its target holds, or those where it does not.
 ghost use Rattle.std.specs.Prelude.{◌≡◌, ℕ, ◌+◌, ◌*◌, ◌^◌, ◌<◌, ◌≤◌, ◌↔◌, min, SomeIff, IsTrue};
-ghost use Rattle.mk_net.specs.Bounds.{number_limit};
+ghost use Rattle.mk_net.specs.Bounds.{number_limit, max_share};
 ghost use Rattle.mk_enclose.specs.Factor.{paid_in, taken_out};
 ghost use Rattle.mk_quote.specs.Sides.{ratio_for, Bears, Serves};
 
@@ -22,7 +22,7 @@ impl SideBounds {
     /// The units, in parts of `2^40`, that take this side's price to `x` parts in a million: rounded down, by the ends
     /// that give the fewest. None where they are `2^63` or more.
     pub fn ratio(&self, x: u32) -> Option<u64>
-        requires { x ≤ 999999 }
+        requires { x ≤ max_share }
         ensures { SomeIff result (ratio_for self.now x < number_limit) (ratio_for self.now x) }
     {
         self.whole
@@ -33,7 +33,7 @@ impl SideBounds {
     /// The same units where one more trade of them leaves the user's factor at least one, judged at the lower end of
     /// its gain. None where they do not, or are `2^63` or more.
     pub fn judge(&self, x: u32) -> Option<u64>
-        requires { x ≤ 999999 }
+        requires { x ≤ max_share }
         ensures { SomeIff result (Serves self.now x) (ratio_for self.now x) }
     {
         let ratio = self.ratio(x)?;

@@ -1,6 +1,7 @@
 //! Laws of the texts of replies.
 
 ghost use Rattle.std.specs.Prelude.{◌≡◌, ◌<◌, length, MatchResult};
+ghost use Rattle.mk_reply.specs.Below.{MAX_ANSWER_BYTES};
 ghost use Rattle.mk_reply.specs.Replies.{IsReply, reply_text};
 ghost use Rattle.mk_reply.specs.declared.reply.Reply.{Reply};
 
@@ -18,7 +19,7 @@ pub fn one_reply_each()
 
 /// The text of each reply is shorter than 32,768 bytes.
 pub fn short_replies()
-    ensures { (r : Reply) → IsReply r → length (reply_text r) < 32768 }
+    ensures { (r : Reply) → IsReply r → length (reply_text r) < MAX_ANSWER_BYTES }
 {}
 
 /// What is read of the text of a reply: the same reply, unless memory was wanting.

@@ -1,6 +1,7 @@
 //! Writing a reply.
 
 ghost use Rattle.std.specs.Prelude.{◌≡◌, ◌+◌, ◌*◌, ◌<◌, ◌≤◌, ◌++◌, length, codes, decimal};
+ghost use Rattle.mk_reply.specs.Below.{MAX_ANSWER_BYTES};
 ghost use Rattle.mk_reply.specs.Below.{array_string_len, items_text, price_text, range_text};
 ghost use Rattle.mk_reply.specs.Below.{limits_text, intervals_text, pair_text};
 ghost use Rattle.mk_reply.specs.Refusals.{refusal_text, given_in};
@@ -14,6 +15,7 @@ use crate::refusal::{Intervals, Refusal};
 use crate::reply::Reply;
 use arrayvec::ArrayString;
 use mk_names::Name;
+use mk_names::limits::MAX_ANSWER_BYTES;
 use mk_net::PairText;
 use mk_text::{
     put_all_ends, put_all_prices, put_intervals, put_limits, put_name, put_number, put_pair,
@@ -21,12 +23,12 @@ use mk_text::{
 };
 
 /// The text of a reply. Each has room, also a settlement with 256 payments.
-type Text = ArrayString<32768>;
+type Text = ArrayString<MAX_ANSWER_BYTES>;
 
 /// Puts the text of a reply into `out`, in place of what it held.
-pub fn print_reply(reply: &Reply, out: &mut ArrayString<32768>)
+pub fn print_reply(reply: &Reply, out: &mut ArrayString<MAX_ANSWER_BYTES>)
     ensures text { out.new.bytes ≡ reply_text reply.now }
-    ensures room { array_string_len out.new < 32768 }
+    ensures room { array_string_len out.new < MAX_ANSWER_BYTES }
 {
     out.clear();
     match reply {
@@ -71,7 +73,7 @@ fn put_told(out: &mut Text, reply: &Reply)
     requires told { IsTold reply.now }
     requires empty { array_string_len out.old ≡ 0 }
     ensures text { out.new.bytes ≡ out.old.bytes ++ reply_text reply.now }
-    ensures room { array_string_len out.new < 32768 }
+    ensures room { array_string_len out.new < MAX_ANSWER_BYTES }
 {
     match reply {
         Reply::Price { low, high } => put_prices(out, *low, *high),
@@ -116,7 +118,7 @@ fn put_told(out: &mut Text, reply: &Reply)
 }
 
 fn put_named(out: &mut Text, word: &str, name: &Name)
-    requires { array_string_len out.old + length word.now + 32 ≤ 32768 }
+    requires { array_string_len out.old + length word.now + 32 ≤ MAX_ANSWER_BYTES }
     ensures text { out.new.bytes ≡ out.old.bytes ++ (word.now ++ name.now) }
     ensures growth { array_string_len out.new ≤ array_string_len out.old + length word.now + 32 }
 {
@@ -125,7 +127,7 @@ fn put_named(out: &mut Text, word: &str, name: &Name)
 }
 
 fn put_dated(out: &mut Text, word: &str, name: &Name, at: u64)
-    requires { array_string_len out.old + length word.now + 56 ≤ 32768 }
+    requires { array_string_len out.old + length word.now + 56 ≤ MAX_ANSWER_BYTES }
     ensures text { out.new.bytes ≡ out.old.bytes ++ (word.now ++ (name.now ++ at_text at)) }
     ensures growth { array_string_len out.new ≤ array_string_len out.old + length word.now + 56 }
 {
@@ -134,7 +136,7 @@ fn put_dated(out: &mut Text, word: &str, name: &Name, at: u64)
 }
 
 fn put_paired(out: &mut Text, word: &str, pair: &PairText)
-    requires { array_string_len out.old + length word.now + 65 ≤ 32768 }
+    requires { array_string_len out.old + length word.now + 65 ≤ MAX_ANSWER_BYTES }
     ensures text { out.new.bytes ≡ out.old.bytes ++ (word.now ++ pair_text pair.now) }
     ensures growth { array_string_len out.new ≤ array_string_len out.old + length word.now + 65 }
 {
@@ -143,7 +145,7 @@ fn put_paired(out: &mut Text, word: &str, pair: &PairText)
 }
 
 fn put_counted(out: &mut Text, word: &str, number: u64)
-    requires { array_string_len out.old + length word.now + 20 ≤ 32768 }
+    requires { array_string_len out.old + length word.now + 20 ≤ MAX_ANSWER_BYTES }
     ensures text { out.new.bytes ≡ out.old.bytes ++ (word.now ++ decimal number) }
     ensures growth { array_string_len out.new ≤ array_string_len out.old + length word.now + 20 }
 {
@@ -152,7 +154,7 @@ fn put_counted(out: &mut Text, word: &str, number: u64)
 }
 
 fn put_of(out: &mut Text, word: &str, number: u32, most: u32)
-    requires { array_string_len out.old + length word.now + 44 ≤ 32768 }
+    requires { array_string_len out.old + length word.now + 44 ≤ MAX_ANSWER_BYTES }
     ensures text { out.new.bytes ≡ out.old.bytes ++ (word.now ++ of_text (number, most)) }
     ensures growth { array_string_len out.new ≤ array_string_len out.old + length word.now + 44 }
 {
@@ -161,7 +163,7 @@ fn put_of(out: &mut Text, word: &str, number: u32, most: u32)
 }
 
 fn put_ends(out: &mut Text, word: &str, low: u64, high: u64)
-    requires { array_string_len out.old + length word.now + 42 ≤ 32768 }
+    requires { array_string_len out.old + length word.now + 42 ≤ MAX_ANSWER_BYTES }
     ensures text { out.new.bytes ≡ out.old.bytes ++ (word.now ++ range_text low high) }
     ensures growth { array_string_len out.new ≤ array_string_len out.old + length word.now + 42 }
 {
@@ -170,7 +172,7 @@ fn put_ends(out: &mut Text, word: &str, low: u64, high: u64)
 }
 
 fn put_limited(out: &mut Text, word: &str, limits: Option<(u32, u32)>)
-    requires { array_string_len out.old + length word.now + 42 ≤ 32768 }
+    requires { array_string_len out.old + length word.now + 42 ≤ MAX_ANSWER_BYTES }
     ensures text { out.new.bytes ≡ out.old.bytes ++ (word.now ++ limits_text limits) }
     ensures growth { array_string_len out.new ≤ array_string_len out.old + length word.now + 42 }
 {
@@ -179,7 +181,7 @@ fn put_limited(out: &mut Text, word: &str, limits: Option<(u32, u32)>)
 }
 
 fn put_given(out: &mut Text, word: &str, intervals: &Option<Intervals>)
-    requires { array_string_len out.old + length word.now + 688 ≤ 32768 }
+    requires { array_string_len out.old + length word.now + 688 ≤ MAX_ANSWER_BYTES }
     ensures text { out.new.bytes ≡ out.old.bytes ++ (word.now ++ intervals_text (given_in intervals.now)) }
     ensures growth { array_string_len out.new ≤ array_string_len out.old + length word.now + 688 }
 {
@@ -191,7 +193,7 @@ fn put_given(out: &mut Text, word: &str, intervals: &Option<Intervals>)
 }
 
 fn put_prices(out: &mut Text, low: u64, high: u64)
-    requires { array_string_len out.old + 70 ≤ 32768 }
+    requires { array_string_len out.old + 70 ≤ MAX_ANSWER_BYTES }
     ensures text { out.new.bytes ≡ out.old.bytes ++ (codes "price " ++ (price_text low ++ (codes ".." ++ price_text high))) }
     ensures growth { array_string_len out.new ≤ array_string_len out.old + 70 }
 {
@@ -202,7 +204,7 @@ fn put_prices(out: &mut Text, low: u64, high: u64)
 }
 
 fn put_trade(out: &mut Text, hit: u64, miss: u64, at: u64)
-    requires { array_string_len out.old + 71 ≤ 32768 }
+    requires { array_string_len out.old + 71 ≤ MAX_ANSWER_BYTES }
     ensures text { out.new.bytes ≡ out.old.bytes ++ (codes "trade " ++ (decimal hit ++ (codes " " ++ (decimal miss ++ at_text at)))) }
     ensures growth { array_string_len out.new ≤ array_string_len out.old + 71 }
 {
@@ -212,7 +214,7 @@ fn put_trade(out: &mut Text, hit: u64, miss: u64, at: u64)
 }
 
 fn put_settled(out: &mut Text, at: u64, users: u32, total: u64)
-    requires { array_string_len out.old + 83 ≤ 32768 }
+    requires { array_string_len out.old + 83 ≤ MAX_ANSWER_BYTES }
     ensures text { out.new.bytes ≡ out.old.bytes ++ reply_text (SettledAll at users total) }
     ensures growth { array_string_len out.new ≤ array_string_len out.old + 83 }
 {
@@ -223,7 +225,7 @@ fn put_settled(out: &mut Text, at: u64, users: u32, total: u64)
 }
 
 fn put_at(out: &mut Text, at: u64)
-    requires { array_string_len out.old + 24 ≤ 32768 }
+    requires { array_string_len out.old + 24 ≤ MAX_ANSWER_BYTES }
     ensures text { out.new.bytes ≡ out.old.bytes ++ at_text at }
     ensures growth { array_string_len out.new ≤ array_string_len out.old + 24 }
 {
@@ -232,7 +234,7 @@ fn put_at(out: &mut Text, at: u64)
 
 fn put_payments(out: &mut Text, payments: &[Payment])
     requires few { length payments.now ≤ 256 }
-    requires room { array_string_len out.old + 26368 ≤ 32768 }
+    requires room { array_string_len out.old + 26368 ≤ MAX_ANSWER_BYTES }
     ensures text { out.new.bytes ≡ out.old.bytes ++ items_text (codes ", ") payment_text payments.now }
     ensures growth { array_string_len out.new ≤ array_string_len out.old + 26368 }
 {
@@ -243,7 +245,7 @@ fn put_payments(out: &mut Text, payments: &[Payment])
 }
 
 fn put_payment(out: &mut Text, payment: &Payment)
-    requires { array_string_len out.old + 101 ≤ 32768 }
+    requires { array_string_len out.old + 101 ≤ MAX_ANSWER_BYTES }
     ensures text { out.new.bytes ≡ out.old.bytes ++ payment_text payment.now }
     ensures growth { array_string_len out.new ≤ array_string_len out.old + 101 }
 {
@@ -254,7 +256,7 @@ fn put_payment(out: &mut Text, payment: &Payment)
 }
 
 fn put_paid(out: &mut Text, payment: &Payment)
-    requires { array_string_len out.old + 106 ≤ 32768 }
+    requires { array_string_len out.old + 106 ≤ MAX_ANSWER_BYTES }
     ensures text { out.new.bytes ≡ out.old.bytes ++ (codes "paid " ++ payment_text payment.now) }
     ensures growth { array_string_len out.new ≤ array_string_len out.old + 106 }
 {
@@ -263,7 +265,7 @@ fn put_paid(out: &mut Text, payment: &Payment)
 }
 
 fn put_stale(out: &mut Text, named: u32, now: u64)
-    requires { array_string_len out.old + 47 ≤ 32768 }
+    requires { array_string_len out.old + 47 ≤ MAX_ANSWER_BYTES }
     ensures text { out.new.bytes ≡ out.old.bytes ++ refusal_text (Stale named now) }
     ensures growth { array_string_len out.new ≤ array_string_len out.old + 47 }
 {
@@ -272,7 +274,7 @@ fn put_stale(out: &mut Text, named: u32, now: u64)
 }
 
 fn put_refusal(out: &mut Text, why: &Refusal)
-    requires { array_string_len out.old + 696 ≤ 32768 }
+    requires { array_string_len out.old + 696 ≤ MAX_ANSWER_BYTES }
     ensures text { out.new.bytes ≡ out.old.bytes ++ refusal_text why.now }
     ensures growth { array_string_len out.new ≤ array_string_len out.old + 696 }
 {

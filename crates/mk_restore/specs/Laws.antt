@@ -1,6 +1,7 @@
 -- The laws of what is taken back. Each is the contract of a function of this crate, and so proved.
 use Rattle.std.specs.Prelude.{◌≡◌, ◌≢◌, ℕ, ◌+◌, ◌<◌, ◌≤◌, List, [], ◌∷◌, ◌++◌, length, All, Some}
 use Rattle.std.specs.List.{AllByRecursion}
+use Rattle.mk_names.specs.declared.limits.TheConstants.{MAX_RECORD_BYTES}
 use Rattle.mk_exact.specs.History.{Entry, trades, additions, revision}
 use Rattle.mk_exact.specs.Market.{Market, present}
 use Rattle.mk_exact.specs.Proper.{IsProper}
@@ -128,4 +129,4 @@ RecordHoldsOne = (bytes : List ℕ) (command other : Command) (reply another : R
 abbrev pub RecordIsShort : Type 0
 RecordIsShort =
     (bytes : List ℕ) (command : Command) (reply : Reply) → IsRecord bytes command reply
-    → (1 ≤ length bytes) × (length bytes ≤ 34000)
+    → (1 ≤ length bytes) × (length bytes ≤ MAX_RECORD_BYTES)

@@ -12,6 +12,8 @@ pub use Rattle.mk_io.specs.Outside.{AddsFront, CountsFault, IsAtEnd, Rose}
 pub use Rattle.mk_io.specs.Quiet.{file_or_empty}
 pub use Rattle.mk_io.specs.Stream.{max_line_bytes, max_stream_lines, text}
 pub use Rattle.mk_market.specs.Trading.{IsAt}
+pub use Rattle.mk_names.specs.declared.limits.TheConstants.{MAX_ANSWER_BYTES, MAX_LINE_BYTES}
+pub use Rattle.mk_names.specs.declared.limits.TheConstants.{MAX_RECORD_BYTES}
 pub use Rattle.mk_rules.specs.Standings.{IsMarket}
 pub use Rattle.mk_rules.specs.Transcript.{opening, Standing}
 pub use Rattle.mk_tree.specs.Checked.{IsTreeOf}

@@ -2,18 +2,17 @@
 
 ghost use Rattle.std.specs.Prelude.{◌≡◌, ℕ, ◌+◌, ◌-◌, ◌^◌, ◌<◌, ◌≤◌, ◌∷◌, ◌++◌};
 ghost use Rattle.std.specs.Prelude.{length, take};
+ghost use Rattle.mk_session.specs.Below.{MAX_ANSWER_BYTES, MAX_LINE_BYTES, MAX_RECORD_BYTES};
 ghost use Rattle.mk_session.specs.inner.Keeping.{TakesChange};
 
 use arrayvec::ArrayVec;
 use mk_disk::DiskFailed;
 use mk_journal::Keeper;
+use mk_names::limits::MAX_RECORD_BYTES;
 
 /// The bytes of a short record. Most have fewer than a hundred, and a room for any would take
 /// longer to clear than all else that a change takes.
 const SHORT: usize = 1024;
-
-/// Room for the record of any change: a line, LF and the text of a reply.
-const LONG: usize = 34000;
 
 /// Puts a line, LF and the text of a reply into `made`, in place of what it held.
 fn put_record<const ROOM: usize>(line: &[u8], reply: &[u8], made: &mut ArrayVec<u8, ROOM>)
@@ -38,7 +37,7 @@ fn take_within<const ROOM: usize, D, J: Keeper<D>>(
     keeper: &mut J,
     disk: &mut D,
 ) -> Result<(), DiskFailed>
-    requires room { ROOM ≤ 34000 }
+    requires room { ROOM ≤ MAX_RECORD_BYTES }
     requires within { length line.now + length printed.now ≤ ROOM }
     requires some { 1 ≤ length printed.now }
     requires ready { (n : ℕ) × (n < 2 ^ 40) × J.is_ready keeper.old disk.old n }
@@ -57,9 +56,9 @@ pub fn take_change<D, J: Keeper<D>>(
     keeper: &mut J,
     disk: &mut D,
 ) -> Result<(), DiskFailed>
-    requires line { length line.now ≤ 1024 }
+    requires line { length line.now ≤ MAX_LINE_BYTES }
     requires some { 1 ≤ length printed.now }
-    requires most { length printed.now ≤ 32768 }
+    requires most { length printed.now ≤ MAX_ANSWER_BYTES }
     requires ready { (n : ℕ) × (n < 2 ^ 40) × J.is_ready keeper.old disk.old n }
     ensures { TakesChange J.is_ready J.faults J.holds J.leaves J.passes result keeper.old keeper.new
         disk.old disk.new (line.now ++ 10 ∷ take (length printed.now - 1) printed.now) }
@@ -67,6 +66,6 @@ pub fn take_change<D, J: Keeper<D>>(
     if line.len() + printed.len() <= SHORT {
         take_within::<SHORT, D, J>(line, printed, keeper, disk)
     } else {
-        take_within::<LONG, D, J>(line, printed, keeper, disk)
+        take_within::<MAX_RECORD_BYTES, D, J>(line, printed, keeper, disk)
     }
 }

@@ -10,15 +10,20 @@ ghost use Rattle.mk_session.specs.Texts.{reply_line, fault_line};
 use crate::market::TreeMarket;
 use arrayvec::ArrayString;
 use mk_file::{FileFault, print_fault};
+use mk_names::limits::MAX_ANSWER_BYTES;
 use mk_reply::{Reply, print_reply};
 use mk_text::put_number;
 
 /// A line of the output, its LF included.
-pub type LineBuffer = ArrayString<32768>;
+pub type LineBuffer = ArrayString<MAX_ANSWER_BYTES>;
 
 /// Puts what a run writes before its first reply into `line`, in place of what it held: the ready
 /// line of its file's market, and how many changes a store gave back, where one did.
-pub fn print_head(market: &TreeMarket, recovered: Option<u64>, line: &mut ArrayString<32768>)
+pub fn print_head(
+    market: &TreeMarket,
+    recovered: Option<u64>,
+    line: &mut ArrayString<MAX_ANSWER_BYTES>,
+)
     ensures { (start : Market) → IsAt start market.now →
         line.new.bytes ≡ head_of start recovered }
 {
@@ -30,7 +35,7 @@ pub fn print_head(market: &TreeMarket, recovered: Option<u64>, line: &mut ArrayS
 
 /// Puts the first line of a run of this market into `line`, in place of what it held. It tells what
 /// the file has, also where a store gave added questions back.
-fn print_ready(market: &TreeMarket, line: &mut ArrayString<32768>)
+fn print_ready(market: &TreeMarket, line: &mut ArrayString<MAX_ANSWER_BYTES>)
     ensures bytes { (start : Market) → IsAt start market.now →
         line.new.bytes ≡ ready_line start }
     ensures short { array_string_len line.new ≤ 128 }
@@ -53,7 +58,7 @@ fn file_variables(market: &TreeMarket) -> u32
 }
 
 /// Puts the number of changes that a store gave back behind the ready line.
-fn put_resumed(revision: u64, line: &mut ArrayString<32768>)
+fn put_resumed(revision: u64, line: &mut ArrayString<MAX_ANSWER_BYTES>)
     requires { array_string_len line.old ≤ 128 }
     ensures { line.new.bytes ≡ line.old.bytes ++ resumed_line revision }
 {
@@ -63,7 +68,7 @@ fn put_resumed(revision: u64, line: &mut ArrayString<32768>)
 }
 
 /// Puts the line of a reply into `line`, in place of what it held.
-pub fn print_reply_line(reply: &Reply, line: &mut ArrayString<32768>)
+pub fn print_reply_line(reply: &Reply, line: &mut ArrayString<MAX_ANSWER_BYTES>)
     ensures { line.new.bytes ≡ reply_line reply.now }
 {
     print_reply(reply, line);
@@ -72,7 +77,7 @@ pub fn print_reply_line(reply: &Reply, line: &mut ArrayString<32768>)
 
 /// Puts the line of a refused market file into `line`, in place of what it held. Want of memory has
 /// no line.
-pub fn print_fault_line(fault: &FileFault, line: &mut ArrayString<32768>)
+pub fn print_fault_line(fault: &FileFault, line: &mut ArrayString<MAX_ANSWER_BYTES>)
     requires { fault.now ≢ Memory }
     ensures { line.new.bytes ≡ fault_line fault.now }
 {

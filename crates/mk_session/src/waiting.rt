@@ -3,6 +3,7 @@
 //! read: whoever waits for an answer has it before the run waits for a line.
 
 ghost use Rattle.std.specs.Prelude.{◌≡◌, ℕ, ◌^◌, ◌<◌, ◌≤◌, [], length, true, false, OnOk};
+ghost use Rattle.mk_session.specs.Below.{MAX_ANSWER_BYTES};
 ghost use Rattle.mk_session.specs.inner.Keeping.{IsTold};
 
 use crate::print::LineBuffer;
@@ -59,7 +60,7 @@ pub fn put_line<D, J: Keeper<D>, S: Sink>(
     out: &mut S,
     disk: &mut D,
 ) -> Result<(), TellFault>
-    requires size { length line.now ≤ 32768 }
+    requires size { length line.now ≤ MAX_ANSWER_BYTES }
     requires ready { (n : ℕ) × (n < 2 ^ 40) × J.is_ready keeper.old disk.old n }
     ensures { IsTold J.is_ready J.faults J.holds J.leaves J.passes S.written S.faults result
         keeper.old keeper.new disk.old disk.new out.old out.new waiting.old.bytes line.now

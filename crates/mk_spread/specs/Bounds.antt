@@ -1,6 +1,7 @@
 -- Right bounds of a whole distribution, for the exact numbers of each value.
 use Rattle.std.specs.Prelude.{◌≡◌, ℕ, ◌≤◌, ⊤, List, [], ◌∷◌, Any, Option, Some, None, IfSome, option_map, ◌↔◌}
 use Rattle.std.specs.List.{AllZip}
+use Rattle.mk_net.specs.Bounds.{max_share}
 use Rattle.mk_states.specs.Ratios.{unit}
 use Rattle.mk_exact.specs.Limits.{Side, IsFairAndSolvent, IsWanted, IsFloorSolvent, Inside, IsWithinRange}
 
@@ -29,8 +30,8 @@ InsideEach (Some intervals) Xs = AllZip (λ interval X. Inside (Some interval) X
 pub record IsRightInterval (small : Type 0) (side : Side) (interval : ℕ × ℕ) : Type 0 where
   pub in_range : IsWithinRange (Some interval)
   pub sound : (X : ℕ) → Inside (Some interval) X → (F : ℕ) × IsFairAndSolvent small side X F
-  pub near_complete : (X : ℕ) → 1 ≤ X → X ≤ 999999 → IsWanted side X → Inside (Some interval) X
-  pub exact : small → (X : ℕ) → 1 ≤ X → X ≤ 999999 → Inside (Some interval) X ↔ IsFloorSolvent side X
+  pub near_complete : (X : ℕ) → 1 ≤ X → X ≤ max_share → IsWanted side X → Inside (Some interval) X
+  pub exact : small → (X : ℕ) → 1 ≤ X → X ≤ max_share → Inside (Some interval) X ↔ IsFloorSolvent side X
 
 -- the interval of a value: right for its side, or nothing alone for a value that cannot come
 abbrev pub IsRightFor : Type 0 → Option Side → ℕ × ℕ → Type 0
@@ -50,7 +51,7 @@ all_given (o ∷ os) = given_with o (all_given os)
 -- no share of a value that can come meets a property on its side
 abbrev pub NoShare : (Side → ℕ → Type 0) → Option Side → Type 0
 NoShare P None = ⊥
-NoShare P (Some side) = (X : ℕ) → 1 ≤ X → X ≤ 999999 → ¬ P side X
+NoShare P (Some side) = (X : ℕ) → 1 ≤ X → X ≤ max_share → ¬ P side X
 
 -- bounds are right: each interval that is given is, and none are given only where no share of some value that can come can well be
 -- traded; in the small case exactly where the exact floor allows none of some such value

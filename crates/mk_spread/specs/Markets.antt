@@ -1,6 +1,7 @@
 -- Right bounds and fair lists of a market's question about a whole distribution.
 use Rattle.std.specs.Prelude.{◌≡◌, ℕ, ◌≤◌, Bool, true, false, not, List, filter, length, slice_index, Option, None, MatchOption}
 use Rattle.std.specs.List.{AllZip}
+use Rattle.mk_net.specs.Bounds.{max_share}
 use Rattle.mk_net.specs.Network.{Variable, sizes}
 use Rattle.mk_net.specs.Events.{speaks_of, AreApart}
 use Rattle.mk_states.specs.States.{numbers_below}
@@ -54,7 +55,7 @@ values_left network H spread = filter (λ value. not (value_cannot_come network 
 -- a share for a value: nothing where it cannot come, and else 1 to 999,999 parts in a million
 abbrev pub IsShareWhere : (impossible : Bool) → ℕ → Type 0
 IsShareWhere true X = X ≡ 0
-IsShareWhere false X = (1 ≤ X) × (X ≤ 999999)
+IsShareWhere false X = (1 ≤ X) × (X ≤ max_share)
 
 -- one for each value
 abbrev pub SuitValues : List Variable → List Entry → SpreadAsked → List ℕ → Type 0

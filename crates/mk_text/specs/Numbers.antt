@@ -1,5 +1,6 @@
 -- Numbers and prices, and how they are written.
 use Rattle.std.specs.Prelude.{◌≡◌, ◌⊎◌, ℕ, zero, suc, ◌+◌, ◌/◌, ◌%◌, ◌^◌, ◌<◌, ◌≤◌, ⊤, List, [], ◌∷◌, ◌++◌, codes, decimal, Option, Some, None}
+use Rattle.mk_names.specs.declared.limits.TheConstants.{MAX_SHARE}
 use Rattle.mk_text.specs.Joined.{◌&◌, spaced, AreSeveral}
 
 -- a number of at most nine digits
@@ -34,7 +35,7 @@ price_text price = decimal (price / units) & codes "." & places 10 (price % unit
 pub record IsWithinLimits (low high : ℕ) : Type 0 where
   pub positive : 1 ≤ low
   pub ordered : low ≤ high
-  pub below : high ≤ 999999
+  pub below : high ≤ MAX_SHARE
 
 abbrev pub AreLimits : Option (ℕ × ℕ) → Type 0
 AreLimits None = ⊤

@@ -1,6 +1,7 @@
 -- Reading a command: the word by which its form is known, and then the parts of that form.
 use Rattle.std.specs.Prelude.{ℕ, List, [], ◌∷◌, length, nat_le, codes, Option}
 use Rattle.arrayvec.specs.ArrayVec.{ArrayVec}
+use Rattle.mk_names.specs.declared.limits.TheConstants.{MAX_LINE_BYTES}
 use Rattle.mk_text.specs.Reading.{Read, both, behind, made, passed, given, nothing, perhaps}
 use Rattle.mk_text.specs.Reading.{choose, read_name, read_short, read_pair, read_condition}
 use Rattle.mk_text.specs.Reading.{read_question, read_several}
@@ -62,7 +63,8 @@ read_position = made (λ parts. Position (parts.0) (parts.1.0) (held (parts.1.1)
 
 -- an added question whose text has at most 1,024 bytes
 abbrev pub read_short_addition : Read AddText
-read_short_addition = passed (λ addition. nat_le (length (add_text addition)) 1024) read_addition
+read_short_addition =
+    passed (λ addition. nat_le (length (add_text addition)) MAX_LINE_BYTES) read_addition
 
 unfoldable pub read_add : Read Command
 read_add = made (λ addition. Add addition) read_short_addition

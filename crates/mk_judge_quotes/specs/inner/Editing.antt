@@ -1,5 +1,6 @@
 -- What a judge of trades for a question leaves open.
 use Rattle.std.specs.Prelude.{ℕ, ◌≤◌, Bool, List}
+use Rattle.mk_net.specs.Bounds.{max_share}
 use Rattle.mk_net.specs.declared.words.QuestionText.{QuestionText}
 use Rattle.mk_net.specs.Asked.{Asked}
 use Rattle.mk_exact.specs.History.{Entry}
@@ -24,7 +25,7 @@ pub record CanJudgeTrade (bounds : Bounds) (to : ℕ) : Type 0 where
   pub hit_range : HasTradeRange bounds.hit_factor
   pub miss_range : HasTradeRange bounds.miss_factor
   pub some : 1 ≤ to
-  pub few : to ≤ 999999
+  pub few : to ≤ max_share
 
 -- a judgement of what a reply says of a question, whatever market these are bounds of
 abbrev pub JudgesEdit : Judged → Bounds → Bool → ℕ → (Market → List Entry → ℕ → Asked → Type 0)

@@ -1,6 +1,7 @@
 -- What a judge of trades for a whole distribution leaves open, and what one of intervals says.
 use Rattle.std.specs.Prelude.{◌≡◌, ℕ, ◌≤◌, Bool, false, IsTrue, List, All, Option}
 use Rattle.arrayvec.specs.ArrayVec.{ArrayVec}
+use Rattle.mk_net.specs.Bounds.{max_share}
 use Rattle.mk_net.specs.declared.words.PairText.{PairText}
 use Rattle.mk_exact.specs.History.{Entry}
 use Rattle.mk_exact.specs.Limits.{Side}
@@ -52,7 +53,7 @@ pub record SaysIntervals (j : Judged) (bounds : SpreadBounds) (small : Bool)
 -- a trade to these millionths can be judged by bounds of each value
 pub record CanJudgeSpread (bounds : SpreadBounds) (Xs : List ℕ) : Type 0 where
   pub range : HaveTradeRange (sides_in bounds)
-  pub shares : All (λ X. X ≤ 999999) Xs
+  pub shares : All (λ X. X ≤ max_share) Xs
 
 -- a judgement of what a reply says of a distribution, whatever market these are bounds of
 abbrev pub JudgesSpread : Judged → SpreadBounds → Bool → ℕ

@@ -1,6 +1,6 @@
 -- What the units for a share reach, as the search for the least such share tries it.
 use Rattle.std.specs.Prelude.{ℕ, ◌<◌, ◌≤◌, min}
-use Rattle.mk_net.specs.Bounds.{number_limit}
+use Rattle.mk_net.specs.Bounds.{number_limit, max_share}
 use Rattle.mk_quote.specs.declared.side.SideBounds.{SideBounds}
 use Rattle.mk_quote.specs.declared.interval.Bound.{Bound}
 use Rattle.mk_quote.specs.declared.interval.Bound.TheVariants.{Borne, TooMany}
@@ -17,4 +17,4 @@ pub record HoldsFirst (bounds : SideBounds) (bound : Bound) (range : Range) : Ty
   pub ordered : range.low ≤ range.high
   pub at_most : range.high ≤ 1000000
   pub before : (X : ℕ) → X < range.low → 1 ≤ X → ¬ Reaches bounds bound X
-  pub later : (X : ℕ) → range.high ≤ X → X ≤ 999999 → Reaches bounds bound X
+  pub later : (X : ℕ) → range.high ≤ X → X ≤ max_share → Reaches bounds bound X
