@@ -15,5 +15,7 @@ returns-then-eq c =
 pub returns-else-eq : goal.returns-else-eq
 returns-else-eq c =
     told_otherwise c.args.reply.now (Added c.in-Added.variable c.in-Added.at)
-    (Added c.args.add.now.variable (revision c.args.journal.now.history + 1)) c.eq.result c.in-Added.is
-    (λ e. unlike_names c.in-Added.variable c.args.add.now.variable c.if-eq.ensures (cc)) c.if-eq.false
+    (Added c.args.add.now.variable (revision c.args.journal.now.history + 1)) c.eq.result
+    c.in-Added.is
+    (λ e. unlike_names c.in-Added.variable c.args.add.now.variable c.if-eq.ensures (cc))
+    c.if-eq.false

@@ -16,5 +16,6 @@ returns-then-eq c =
 pub returns-else-eq : goal.returns-else-eq
 returns-else-eq c =
     told_otherwise c.args.reply.now (Resolved c.in-Resolved.pair c.in-Resolved.at)
-    (Resolved c.args.words.now (revision c.args.journal.now.history + 1)) c.eq.result c.in-Resolved.is
+    (Resolved c.args.words.now (revision c.args.journal.now.history + 1)) c.eq.result
+    c.in-Resolved.is
     (λ e. unlike_pairs c.in-Resolved.pair c.args.words.now c.if-eq.ensures (cc)) c.if-eq.false
