@@ -101,11 +101,14 @@ meaning_same m =
 -- ---- the state after the passes
 
 -- the clique that holds an event of the engine as it is seen
-pub held_in : (old now : MarkedFlow) (k : ℕ) (event : List Pair) → old ≡ now → IsHeldAt now.flow.shape.tree k event → IsHeldAt old.flow.shape.tree k event
-held_in old now k event view held = subst (λ (e : MarkedFlow). IsHeldAt e.flow.shape.tree k event) (sym view) held
+pub held_in : (old now : MarkedFlow) (k : ℕ) (event : List Pair) → old ≡ now
+    → IsHeldAt now.flow.shape.tree k event → IsHeldAt old.flow.shape.tree k event
+held_in old now k event view held = subst (λ (e : MarkedFlow). IsHeldAt e.flow.shape.tree k event)
+    (sym view) held
 
 -- what is read in a clique is a belief of what the engine stands for
-pub record IsRead {V : Type 0} (encloses : V → ℕ → Type 0) (has_grade : V → ℕ → Type 0) (is_exact : V → Type 0)
+pub record IsRead {V : Type 0} (encloses : V → ℕ → Type 0) (has_grade : V → ℕ → Type 0)
+    (is_exact : V → Type 0)
     (plus : ℕ → ℕ → ℕ) (m : Meaning) (k : ℕ) (event : List Pair) (value : V) : Type 0 where
   pub belief : IsBelief encloses has_grade is_exact plus m event value
   pub apart : IsApart m event → whole_sum (without_ratios m) < number_limit → is_exact value

@@ -33,7 +33,8 @@ none_cleared true false d e = refl
 none_cleared false l d e = refl
 
 eqb_sym : (a b : ℕ) → eqb a b ≡ eqb b a
-eqb_sym a b = same_from_decides {P = a ≡ b} (eqb a b) (eqb b a) (Decides-eqb a b) (λ e. sym (eqb-true b a e), λ e. eq-eqb b a (sym e))
+eqb_sym a b = same_from_decides {P = a ≡ b} (eqb a b) (eqb b a) (Decides-eqb a b)
+    (λ e. sym (eqb-true b a e), λ e. eq-eqb b a (sym e))
 
 counted_twice : (old mid new s n more : ℕ) → mid ≡ counted_on old s → new ≡ counted_on mid n → more ≡ s + n → new ≡ counted_on old more
 counted_twice old mid new s n more e f g = omega arith

@@ -16,7 +16,8 @@ none_of true e t = absurd (both_ways true e refl)
 none_of false e t = refl
 
 -- a test of the tree says the same of a flow that kept its shape
-same_way : {new old : ShapeOf} → new ≡ old → (test : GivenTree → Bool) (b : Bool) → test new.tree ≡ b → test old.tree ≡ b
+same_way : {new old : ShapeOf} → new ≡ old → (test : GivenTree → Bool) (b : Bool)
+    → test new.tree ≡ b → test old.tree ≡ b
 same_way same test b h = subst (λ (s : ShapeOf). test s.tree ≡ b) same h
 
 module _ (plus : ℕ → ℕ → ℕ) (c : ℕ) (old : MarkedFlow) (could : CanCollect plus old c) where
@@ -65,7 +66,8 @@ module _ (plus : ℕ → ℕ → ℕ) (c : ℕ) (old : MarkedFlow) (could : CanC
       up_stay h =
           let tree = old.flow.shape.tree in
           collected_same plus c old mid (passed_up tree c k) (passed_up tree c (k - 1)) is
-          (λ j p q. up_same tree could.marks_of.linked c could.clique_is k j at_k.first (same_way is.kept.same_shape (λ t. goes_up t c k) false h))
+          (λ j p q. up_same tree could.marks_of.linked c could.clique_is k j at_k.first
+          (same_way is.kept.same_shape (λ t. goes_up t c k) false h))
 
     module _ (is : AreCollected plus c (passed_down old.flow.shape.tree c (k - 1)) old mid) where
       pub down_sends : goes_down mid.flow.shape.tree c k ≡ true → CanSend plus mid.flow k (next_on_way mid.flow.shape.tree k c)
@@ -91,7 +93,8 @@ module _ (plus : ℕ → ℕ → ℕ) (c : ℕ) (old : MarkedFlow) (could : CanC
       down_stay h =
           let tree = old.flow.shape.tree in
           collected_same plus c old mid (passed_down tree c (k - 1)) (passed_down tree c k) is
-          (λ j p q. down_same tree could.marks_of.linked c could.clique_is k j at_k.first (same_way is.kept.same_shape (λ t. goes_down t c k) false h))
+          (λ j p q. down_same tree could.marks_of.linked c could.clique_is k j at_k.first
+          (same_way is.kept.same_shape (λ t. goes_down t c k) false h))
 
 -- ---- the second pass, since the first
 

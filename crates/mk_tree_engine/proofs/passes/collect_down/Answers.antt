@@ -27,16 +27,20 @@ module _ (g : Over) (c : After-shape-in-loop-passed g) where
   mid = marked c.loop-passed.flow c.loop-passed.marks.up.items c.loop-passed.marks.down.items
 
   passes : c.loop-passed.passed < length c.args.flow.now.shape.tree.cliques
-  passes = within c.args.flow.now.shape c.shape.result.now c.cliques-cliques.result c.loop-passed.passed c.shape.ensures c.cliques-cliques.ensures.count c.loop-passed-test.true
+  passes = within c.args.flow.now.shape c.shape.result.now c.cliques-cliques.result
+      c.loop-passed.passed c.shape.ensures c.cliques-cliques.ensures.count c.loop-passed-test.true
 
-  so_far : AreCollected g.R.Semiring.plus_of c.args.clique (passed_down c.args.flow.now.shape.tree c.args.clique c.loop-passed.passed) c.requires.old mid
+  so_far : AreCollected g.R.Semiring.plus_of c.args.clique
+      (passed_down c.args.flow.now.shape.tree c.args.clique c.loop-passed.passed) c.requires.old mid
   so_far = c.loop-passed.invariant c.requires.old c.requires.could c.requires.collected
 
   clique_there : IsClique c.loop-passed.flow.shape.tree c.args.clique
-  clique_there = turn_clique g.R.Semiring.plus_of c.args.clique c.requires.old first c.requires.could c.requires.collected mid c.loop-passed.passed passes so_far
+  clique_there = turn_clique g.R.Semiring.plus_of c.args.clique c.requires.old first
+      c.requires.could c.requires.collected mid c.loop-passed.passed passes so_far
 
   k_there : IsClique c.loop-passed.flow.shape.tree (c.loop-passed.passed + 1)
-  k_there = turn_k g.R.Semiring.plus_of c.args.clique c.requires.old first c.requires.could c.requires.collected mid c.loop-passed.passed passes so_far
+  k_there = turn_k g.R.Semiring.plus_of c.args.clique c.requires.old first c.requires.could
+      c.requires.collected mid c.loop-passed.passed passes so_far
 
 pub goes_down-requires-clause-clique : goal.goes_down-requires-clause-clique
 goes_down-requires-clause-clique g c =
@@ -52,17 +56,20 @@ pub make_towards-requires-clause-marks : goal.make_towards-requires-clause-marks
 make_towards-requires-clause-marks g c = (c.loop-passed.invariant c.requires.old c.requires.could c.requires.collected).marks_of
 
 pub make_towards-requires-clause-k : goal.make_towards-requires-clause-k
-make_towards-requires-clause-k g c = k_there g (goal.at.make_towards-requires-clause-k g c).After-shape-in-loop-passed
+make_towards-requires-clause-k g c = k_there g
+    (goal.at.make_towards-requires-clause-k g c).After-shape-in-loop-passed
 
 pub make_towards-requires-clause-clique : goal.make_towards-requires-clause-clique
-make_towards-requires-clause-clique g c = clique_there g (goal.at.make_towards-requires-clause-clique g c).After-shape-in-loop-passed
+make_towards-requires-clause-clique g c = clique_there g
+    (goal.at.make_towards-requires-clause-clique g c).After-shape-in-loop-passed
 
 pub make_towards-requires-clause-send : goal.make_towards-requires-clause-send
 make_towards-requires-clause-send g c =
     let s = (goal.at.make_towards-requires-clause-send g c).After-shape-in-loop-passed in
     let down : goes_down c.loop-passed.flow.shape.tree c.args.clique (c.loop-passed.passed + 1) ≡ true =
     subst (λ (s : ShapeOf). goes_down s.tree c.args.clique (c.loop-passed.passed + 1) ≡ true) c.shape-in-loop-passed.ensures (sym c.goes_down.ensures ∙ c.if-goes_down.true) in
-    turn_sends g.R.Semiring.plus_of c.args.clique c.requires.old (first g s) c.requires.could c.requires.collected (mid g s) c.loop-passed.passed (passes g s) (so_far g s) down
+    turn_sends g.R.Semiring.plus_of c.args.clique c.requires.old (first g s) c.requires.could
+    c.requires.collected (mid g s) c.loop-passed.passed (passes g s) (so_far g s) down
 
 pub loop-passed-preserved : goal.loop-passed-preserved
 loop-passed-preserved g c = λ old could upward.

@@ -14,21 +14,28 @@ use Rattle.mk_tree_engine.proofs.engine.TreeEngineEngine.know.Goals.{After-mark_
 use Rattle.mk_tree_engine.proofs.engine.TreeEngineEngine.know.Goals as goal
 
 -- what it makes of the engine
-changed : (g : Over) (c : After-mark_away g) → IsChanged c.self.inside.flow c.self.inside.marks c.args.self.now c.restrict.new.self c.mark_away.new.self c.args.clique
+changed : (g : Over) (c : After-mark_away g)
+    → IsChanged c.self.inside.flow c.self.inside.marks c.args.self.now c.restrict.new.self
+    c.mark_away.new.self c.args.clique
 changed g c =
-    is_changed c.shape.ensures c.self.view_is c.self.invariant c.restrict.ensures.kept c.mark_away.ensures.up c.mark_away.ensures.down c.mark_away.ensures.collected
+    is_changed c.shape.ensures c.self.view_is c.self.invariant c.restrict.ensures.kept
+    c.mark_away.ensures.up c.mark_away.ensures.down c.mark_away.ensures.collected
 
 pub restrict-requires : goal.restrict-requires
 restrict-requires g c =
-    let a = c.requires.range in let pair = c.args.pair in let inside = c.self.inside in let tree = inside.flow.shape.tree in
+    let a = c.requires.range in let pair = c.args.pair in let inside = c.self.inside in let tree =
+    inside.flow.shape.tree in
     let old = marked inside.flow inside.marks.up.items inside.marks.down.items in
-    let holds = held_at_home old c.args.self.now c.self.view_is (pair ∷ []) c.args.clique c.requires.home in (
+    let holds = held_at_home old c.args.self.now c.self.view_is (pair ∷ []) c.args.clique
+    c.requires.home in (
       placing_of a.meaning,
-      (stands_old g.R.Semiring.plus_of old c.args.self.now a.meaning c.self.view_is a.stands).placed,
+      (stands_old g.R.Semiring.plus_of old c.args.self.now a.meaning c.self.view_is
+          a.stands).placed,
       record {
         clique_is = clique_of tree c.args.clique (pair ∷ []) holds;
         in_range = a.in_range;
-        holds_it = (and_parts (is_member (clique_at tree c.args.clique) pair.variable) true holds.held).0;
+        holds_it = (and_parts (is_member (clique_at tree c.args.clique) pair.variable) true
+            holds.held).0;
       },
     )
 
@@ -41,8 +48,10 @@ returns-clause-stands g c = λ m stands.
     let at_home = pair_place m.tree clique pair
     (subst (λ (t : GivenTree). home t (pair ∷ []) ≡ Some clique) stands.tree_is c.requires.home)
     in
-    stands_with (changed g (goal.at.returns-clause-stands g c).After-mark_away) g.R.Semiring.plus_of m stands (with_known pair m) (with_pair_in clique pair (placing_of m))
+    stands_with (changed g (goal.at.returns-clause-stands g c).After-mark_away) g.R.Semiring.plus_of
+    m stands (with_known pair m) (with_pair_in clique pair (placing_of m))
     (pair_placed m pair clique at_home) refl (c.restrict.ensures.places (placing_of m))
 
 pub returns-clause-marks : goal.returns-clause-marks
-returns-clause-marks g c = away_from (changed g (goal.at.returns-clause-marks g c).After-mark_away) c.args.clique refl
+returns-clause-marks g c = away_from (changed g (goal.at.returns-clause-marks g c).After-mark_away)
+    c.args.clique refl
