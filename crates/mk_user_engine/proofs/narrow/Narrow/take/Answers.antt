@@ -34,8 +34,10 @@ abbrev placed : After-push_reserved → PlacedRatio
 placed c = record { home = c.args.at; ratio = c.copy_of.result }
 
 -- what stands of the lists in each meaning that may have it
-module _ (c : After-push_reserved) (m : Meaning) (given : CanHold c.args.self.now c.args.at (trade_ratio c.args.ratio.now) m) where
-  grouped : AreGrouped c.args.self.now.groups (c.args.self.now.trades.items ++ placed c ∷ []) c.args.self.now.known.items c.args.self.now.homes.items
+module _ (c : After-push_reserved) (m : Meaning)
+    (given : CanHold c.args.self.now c.args.at (trade_ratio c.args.ratio.now) m) where
+  grouped : AreGrouped c.args.self.now.groups (c.args.self.now.trades.items ++ placed c ∷ [])
+      c.args.self.now.known.items c.args.self.now.homes.items
       (with_factor (RatioOf (ratio_in (placed c))) m)
   grouped =
       let n = c.args.self.now in let same = sym c.copy_of.ensures in
@@ -44,26 +46,33 @@ module _ (c : After-push_reserved) (m : Meaning) (given : CanHold c.args.self.no
       more n c.args.at c.args.place (placed c) m can refl held c.requires.few
 
   -- in the words of the ratio that is given
-  taken : AreGrouped c.args.self.now.groups c.push_reserved.new.self.items c.args.self.now.known.items c.args.self.now.homes.items
+  taken : AreGrouped c.args.self.now.groups c.push_reserved.new.self.items
+      c.args.self.now.known.items c.args.self.now.homes.items
       (with_factor (RatioOf (trade_ratio c.args.ratio.now)) m)
   taken =
       let n = c.args.self.now in
-      subst (λ (us : List PlacedRatio). AreGrouped n.groups us n.known.items n.homes.items (with_factor (RatioOf (trade_ratio c.args.ratio.now)) m))
+      subst (λ (us : List PlacedRatio). AreGrouped n.groups us n.known.items n.homes.items
+      (with_factor (RatioOf (trade_ratio c.args.ratio.now)) m))
       (sym c.push_reserved.ensures.items)
-      (subst (λ q. AreGrouped n.groups (n.trades.items ++ placed c ∷ []) n.known.items n.homes.items (with_factor (RatioOf q) m)) c.copy_of.ensures grouped)
+      (subst (λ q. AreGrouped n.groups (n.trades.items ++ placed c ∷ []) n.known.items n.homes.items
+      (with_factor (RatioOf q) m)) c.copy_of.ensures grouped)
 
 pub least_of-requires-clause-listed : goal.least_of-requires-clause-listed
 least_of-requires-clause-listed c =
-    let n = c.args.self.now in let s = (goal.at.least_of-requires-clause-listed c).After-push_reserved in let r = c.requires.range in
-    let listed = listed_each n.groups (n.trades.items ++ placed s ∷ []) n.known.items n.homes.items (with_factor (RatioOf (ratio_in (placed s))) r.0) (grouped s r.0 r.1) in
+    let n = c.args.self.now in let s = (goal.at.least_of-requires-clause-listed
+    c).After-push_reserved in let r = c.requires.range in
+    let listed = listed_each n.groups (n.trades.items ++ placed s ∷ []) n.known.items n.homes.items
+    (with_factor (RatioOf (ratio_in (placed s))) r.0) (grouped s r.0 r.1) in
     subst (λ (ts : List PlacedRatio). AreListedBy c.index-group.result.now.names.items ts) (sym (c.deref.ensures.value ∙ c.push_reserved.ensures.items))
-    (subst (λ (g : Group). AreListedBy g.names.items (n.trades.items ++ placed s ∷ [])) (sym c.index-group.ensures)
+    (subst (λ (g : Group). AreListedBy g.names.items (n.trades.items ++ placed s ∷ []))
+    (sym c.index-group.ensures)
     (listed c.args.place c.index-group.result.now c.requires.place.within))
 
 pub returns-then-self : goal.returns-then-self
 returns-then-self c = λ m given.
     let n = c.args.self.now in let gs = n.groups.list.items in let place = c.args.place in
-    let s = (goal.at.returns-then-self c).After-push_reserved in let pushed = c.push_reserved.ensures in
+    let s = (goal.at.returns-then-self c).After-push_reserved in let pushed =
+    c.push_reserved.ensures in
     let held = subst (λ q. IsHeldIn gs place q) (sym c.copy_of.ensures) c.requires.place in
     let room = given.stands.room in let l = c.least_of.result in
     let ts = n.trades.items ++ placed s ∷ [] in
@@ -76,7 +85,8 @@ returns-then-self c = λ m given.
     (c.deref.ensures.value ∙ pushed.items) c.least_of.ensures)) in
     record {
       grouped = taken s m given;
-      kept = λ e. rw pushed.items (kept_taken gs n.trades.items n.known.items (placed s) place held.within (grouped s m given).groups.apart held.variable n.kept.items l
+      kept = λ e. rw pushed.items (kept_taken gs n.trades.items n.known.items (placed s) place
+          held.within (grouped s m given).groups.apart held.variable n.kept.items l
           (given.stands.kept c.if-self.true) has);
       room = record {
         kept = room.kept;
@@ -88,10 +98,12 @@ returns-then-self c = λ m given.
 
 pub returns-else-self : goal.returns-else-self
 returns-else-self c = λ m given.
-    let n = c.args.self.now in let pushed = c.push_reserved.ensures in let room = given.stands.room in
+    let n = c.args.self.now in let pushed = c.push_reserved.ensures in let room =
+    given.stands.room in
     record {
       grouped = taken (goal.at.returns-else-self c).After-push_reserved m given;
-      kept = λ e. absurd {A = AreKept n.groups.list.items c.push_reserved.new.self.items n.known.items n.kept.items} (both_ways n.is_kept c.if-self.false e);
+      kept = λ e. absurd {A = AreKept n.groups.list.items c.push_reserved.new.self.items
+          n.known.items n.kept.items} (both_ways n.is_kept c.if-self.false e);
       room = record {
         kept = room.kept;
         trades = omega (arith, room.trades, pushed.capacity);
