@@ -211,11 +211,21 @@ module _ (network : List Variable) (tree : GivenTree) (H : List Entry) (u : ℕ)
       room = room;
     }
 
-    pub room_of_weights : length (weights_of network tree H).factors ≤ max_factors
+    room_of_weights : length (weights_of network tree H).factors ≤ max_factors
     room_of_weights = (factors_are_few network tree H u is_open.legal is_open.within.few_trades).0
 
     pub room_of_gains : length (gains_of network tree H u).factors ≤ max_factors
     room_of_gains = (factors_are_few network tree H u is_open.legal is_open.within.few_trades).1
+
+    -- so it is where the engine has the weights
+    pub can_ask_weights : {E : Type 0} (stands_for : E → Meaning → Type 0) (engine : E)
+        (at values : ℕ) → stands_for engine (weights_of network tree H)
+        → IsHeldAt tree at (pairs_asked asked)
+        → values ≡ slice_index (sizes network) asked.target.variable
+        → CanAskOthers stands_for engine at asked values
+    can_ask_weights stands_for engine at values stands held sized =
+        can_ask stands_for engine (weights_of network tree H) at values stands refl refl held
+        room_of_weights sized
 
 -- ---- all of it
 

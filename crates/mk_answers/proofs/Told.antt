@@ -7,7 +7,9 @@ use Rattle.mk_net.specs.declared.words.Pair.{Pair}
 use Rattle.mk_net.specs.Asked.{Asked}
 use Rattle.mk_net.specs.Bounds.{max_points_per_bit, max_values, grade_room, sharpness}
 use Rattle.mk_net.specs.Events.{pairs_asked}
+use Rattle.mk_net.specs.Named.{nobody}
 use Rattle.mk_net.specs.Network.{Variable, sizes}
+use Rattle.mk_states.proofs.Shares.{few_values_at, size_at}
 use Rattle.mk_exact.specs.Cash.{CoversCash}
 use Rattle.mk_states.specs.Events.{holds, with_target}
 use Rattle.mk_exact.specs.Existing.{IsInOrder}
@@ -27,15 +29,19 @@ use Rattle.mk_tree.specs.Given.{GivenTree}
 use Rattle.mk_enclose.specs.declared.factor.Factor.{Factor}
 use Rattle.mk_enclose.specs.Enclosure.{Encloses, IsExact, IsGradedWithin}
 use Rattle.mk_enclose.specs.Factor.{StandsFor}
-use Rattle.mk_engine.specs.Meaning.{exact_belief, max_grade}
-use Rattle.mk_beliefs.specs.Meanings.{gains_of, if_present}
+use Rattle.mk_engine.specs.Meaning.{Meaning, exact_belief, max_grade}
+use Rattle.mk_beliefs.specs.Meanings.{weights_of, gains_of, if_present}
 use Rattle.mk_beliefs.proofs.Gained.{belief_is_least, target_is_least}
 use Rattle.mk_cash.specs.Factors.{HasPowersInRange}
-use Rattle.mk_assets.specs.Holdings.{IsLeastFactor, max_bits}
+use Rattle.mk_assets.specs.declared.assets.Assets.{Assets}
+use Rattle.mk_assets.specs.Holdings.{Holding, Owns, IsLeastFactor, max_bits}
 use Rattle.mk_answers.specs.Open.{IsOpen, CanBeAnswered, CanBeSpreadHere, IsFactorFor, holding_of}
+use Rattle.mk_answers.specs.Calls.{CanPrice}
+use Rattle.mk_answers.specs.Telling.{CanTellPrices, CanTellPosition}
+use Rattle.mk_answers.specs.inner.Found.{CanFindSure}
 use Rattle.mk_answers.proofs.Least.{idle_gain, factor_for, encloses_least}
 use Rattle.mk_answers.proofs.Least.{factor_in_range}
-use Rattle.mk_answers.proofs.Valued.{range_more}
+use Rattle.mk_answers.proofs.Valued.{range_more, valued_at}
 
 -- one item more for the next number
 pub zip_more : {X : Type 0} (P : ℕ → X → Type 0) (n : ℕ) (xs : List X) (x : X) →
@@ -69,6 +75,58 @@ module _ (network : List Variable) (tree : GivenTree) (H : List Entry) (spread :
     in_order = in_order_at k within;
     agrees = answered.agrees;
     home = answered.home k;
+  }
+
+-- ---- one call for each value
+
+module _ {network : List Variable} {tree : GivenTree} {H : List Entry} {spread : SpreadAsked}
+    (is_open : IsOpen network tree H) (answered : CanBeSpreadHere network tree H spread) where
+  -- where as many values were told of as were gone through, there is room for one more
+  pub room_for_one : (told value last : ℕ) → told ≡ value →
+      last ≡ slice_index (sizes network) spread.variable → value < last → told < 16
+  room_for_one told value last same all before =
+      let few = few_values_at network is_open.legal spread.variable
+      answered.in_order.in_range.variable in
+      omega arith
+
+  -- and where all were gone through, there was one
+  pub some_told : (value : ℕ) → value ≡ slice_index (sizes network) spread.variable → 0 < value
+  some_told value all =
+      let v = spread.variable in let within = answered.in_order.in_range.variable in
+      let two = (is_open.legal.each v nobody within).two_values in
+      omega (arith, size_at network is_open.legal v within, two)
+
+-- the price of a value can be asked of an engine that stands for what the first one does
+module _ {E : Type 0} {stands_for : E → Meaning → Type 0} {first : E} {network : List Variable}
+    {at : ℕ} {spread : SpreadAsked} (can : CanTellPrices stands_for first network at spread) where
+  pub can_price_at : (now : E) → ((m : Meaning) → stands_for first m → stands_for now m) →
+      (value last : ℕ) → last ≡ slice_index (sizes network) spread.variable → value < last →
+      CanPrice stands_for now network at (asked_of spread value)
+  can_price_at now kept value last all before = record {
+    tree = can.tree;
+    history = can.history;
+    stands = kept (weights_of network can.tree can.history) can.stands;
+    is_open = can.is_open;
+    answered = answered_at network can.tree can.history spread can.answered value (omega arith);
+    held = can.held value;
+  }
+
+-- so it is of what a user is sure of where the value comes
+module _ {A P : Type 0} {owned_for : A → Meaning → Type 0} {first : Assets A P}
+    {network : List Variable} {at : ℕ} {spread : SpreadAsked}
+    (can : CanTellPosition owned_for first network at spread) where
+  pub can_find_sure_at : (now : Assets A P) →
+      ((h : Holding) → Owns owned_for first h → Owns owned_for now h) → (value last : ℕ) →
+      last ≡ slice_index (sizes network) spread.variable → value < last →
+      CanFindSure owned_for now network at (asked_of spread value)
+  can_find_sure_at now kept value last all before = record {
+    tree = can.tree;
+    history = can.history;
+    user = can.user;
+    owns = kept (holding_of network can.tree can.history can.user) can.owns;
+    is_open = can.is_open;
+    valued = valued_at network can.tree can.history spread can.answered at value (can.held value)
+        (omega arith);
   }
 
 -- what is not some is none

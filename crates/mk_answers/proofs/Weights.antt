@@ -28,7 +28,8 @@ use Rattle.mk_beliefs.specs.Meanings.{weights_of}
 use Rattle.mk_beliefs.proofs.Weighed.{belief_is_total, others_are_total, target_is_total, cases_are_all, weights_are_small}
 use Rattle.mk_beliefs.proofs.Grown.{factors_are_few}
 use Rattle.mk_answers.specs.Open.{IsOpen}
-use Rattle.mk_answers.specs.inner.Found.{IsThere, IsBeliefIn, IsPartFor, IsWholeFor, max_side_grade}
+use Rattle.mk_answers.specs.inner.Found.{IsThere, IsBeliefIn, IsPartFor, IsWholeFor, AreSidesIn}
+use Rattle.mk_answers.specs.inner.Found.{HasSides, max_side_grade}
 use Rattle.mk_answers.proofs.Weaker.{covers_when}
 use Rattle.mk_answers.proofs.Parts.{ArePartsOf, parts_cover, room_is_wide}
 use Rattle.mk_answers.proofs.Presence.{some_weight}
@@ -98,9 +99,27 @@ module _ (network : List Variable) (tree : GivenTree) (H : List Entry) (is_open 
       exact = λ s. b.exact (weights_are_small network tree H s);
     }
 
+    -- what the beliefs in its target and in the other values are in
+    pub sides_in : (event : List Pair) (part rest : Held) (values : ℕ) → event ≡ pairs_asked asked
+        → IsQuestionOf network asked
+        → values ≡ slice_index (sizes network) asked.target.variable
+        → IsWeightOf network tree H event part
+        → IsOthersBelief HeldEncloses HasHeldGrade IsHeldExact ◌+◌ (weights_of network tree H)
+        asked values rest
+        → AreSidesIn network H asked part rest
+    sides_in event part rest values its_pairs fits sized on_part on_rest = record {
+      hit = hit_in event part its_pairs on_part;
+      miss = miss_in values rest fits sized on_rest;
+    }
+
 module _ (network : List Variable) (H : List Entry) (asked : Asked) where
   pub hit_share : total network H (with_target asked) ≤ total network H (holds asked.condition)
   hit_share = omega (arith, cases_are_all network H asked)
+
+  -- beliefs in both sides of it are in those of some question
+  pub has_sides : (part rest : Held) → AreSidesIn network H asked part rest → HasSides part rest
+  has_sides part rest sides =
+      record { network = network; history = H; asked = asked; sides = sides }
 
   -- the interval of the two enclosures covers the price, where both sides weigh something
   module _ (num den : Enclosure) (num_in : IsPartFor network H asked num) (den_in : IsWholeFor network H asked den) where

@@ -79,19 +79,26 @@ pub record HasSides (part rest : Held) : Type 0 where
   pub asked : Asked
   pub sides : AreSidesIn network history asked part rest
 
--- the assets are a user's of a market in use, where the question can be answered, its variable has so many values, and both of its
--- sides have these weights
+-- the assets are a user's of this market in use, where the question can be answered, and a clique
+-- holds it
+pub record CanAskAssets {E P : Type 0} (stands_for : E → Meaning → Type 0) (assets : Assets E P)
+    (network : List Variable) (tree : GivenTree) (H : List Entry) (at : ℕ) (asked : Asked) : Type 0
+  where
+    pub user : ℕ
+    pub owns : Owns stands_for assets (holding_of network tree H user)
+    pub is_open : IsOpen network tree H
+    pub answered : CanBeAnswered network tree H asked
+    pub held : IsHeldAt tree at (pairs_asked asked)
+
+-- so it is of some market, where its variable has so many values, and both of its sides have these
+-- weights
 pub record CanOpen {E P : Type 0} (stands_for : E → Meaning
     → Type 0) (assets : Assets E P) (at : ℕ) (asked : Asked) (values : ℕ) (hit miss : Enclosure) :
     Type 0 where
   pub network : List Variable
   pub tree : GivenTree
   pub history : List Entry
-  pub user : ℕ
-  pub owns : Owns stands_for assets (holding_of network tree history user)
-  pub is_open : IsOpen network tree history
-  pub answered : CanBeAnswered network tree history asked
-  pub held : IsHeldAt tree at (pairs_asked asked)
+  pub asks : CanAskAssets stands_for assets network tree history at asked
   pub sized : values ≡ slice_index (sizes network) asked.target.variable
   pub part : IsPartFor network history asked hit
   pub rest : IsRestFor network history asked miss

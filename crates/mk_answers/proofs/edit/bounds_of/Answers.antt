@@ -1,4 +1,4 @@
-use Rattle.std.proofs.Common.{◌≡◌, ℕ, ◌+◌, ◌-◌, List, slice_index, refl, ap, ◌∙◌, arith}
+use Rattle.std.proofs.Common.{◌≡◌, ℕ, ◌+◌, ◌-◌, List, slice_index, ap, ◌∙◌, arith}
 use Rattle.mk_net.specs.Bounds.{max_values}
 use Rattle.mk_net.specs.declared.words.Pair.{Pair}
 use Rattle.mk_net.specs.Asked.{Asked}
@@ -15,8 +15,8 @@ use Rattle.mk_engine.specs.Cases.{IsOthersBelief}
 use Rattle.mk_beliefs.specs.Meanings.{weights_of}
 use Rattle.mk_answers.specs.Open.{IsOpen, CanBeAnswered, holding_of}
 use Rattle.mk_answers.specs.inner.Found.{AreSidesIn}
-use Rattle.mk_answers.proofs.Weights.{IsWeightOf, hit_in, miss_in}
-use Rattle.mk_answers.proofs.Bounding.{can_ask, room_of_weights}
+use Rattle.mk_answers.proofs.Weights.{IsWeightOf, sides_in}
+use Rattle.mk_answers.proofs.Bounding.{can_ask_weights}
 use Rattle.mk_answers.proofs.Coming.{hit_present, miss_present, both_come, neither_comes, target_never, target_sure}
 use Rattle.mk_answers.proofs.Counted.{side_bounded}
 use Rattle.mk_answers.proofs.Regraded.{graded_within, within_more, held_grade, side_regraded}
@@ -27,40 +27,50 @@ sized_as : (network : List Variable) (asked : Asked) (target : Pair) (values : �
     → values ≡ slice_index (sizes network) asked.target.variable
 sized_as network asked target values is sized = sized ∙ ap (λ (p : Pair). slice_index (sizes network) p.variable) is
 
--- what both beliefs are in
-found_in : (network : List Variable) (tree : GivenTree) (H : List Entry) → IsOpen network tree H → (asked : Asked) → CanBeAnswered network tree H asked
-    → (event : List Pair) (part rest : Held) (values : ℕ) → event ≡ pairs_asked asked → values ≡ slice_index (sizes network) asked.target.variable
-    → IsWeightOf network tree H event part → IsOthersBelief HeldEncloses HasHeldGrade IsHeldExact ◌+◌ (weights_of network tree H) asked values rest
+-- what both beliefs are in, where that in the other values is of so many
+found_in : (network : List Variable) (tree : GivenTree) (H : List Entry) → IsOpen network tree H
+    → (asked : Asked) → CanBeAnswered network tree H asked
+    → (target : Pair) (event : List Pair) (part rest : Held) (values : ℕ) → target ≡ asked.target
+    → event ≡ pairs_asked asked → values ≡ slice_index (sizes network) target.variable
+    → IsWeightOf network tree H event part
+    → (values ≡ slice_index (sizes network) asked.target.variable
+    → IsOthersBelief HeldEncloses HasHeldGrade IsHeldExact ◌+◌ (weights_of network tree H) asked
+    values rest)
     → AreSidesIn network H asked part rest
-found_in network tree H is_open asked answered event part rest values its_pairs sized on_part on_rest = record {
-  hit = hit_in network tree H is_open asked event part its_pairs on_part;
-  miss = miss_in network tree H is_open asked values rest answered.in_order.in_range sized on_rest;
-}
+found_in network tree H is_open asked answered target event part rest values is its_pairs sized
+    on_part on_rest =
+    let own = sized_as network asked target values is sized in
+    sides_in network tree H is_open asked event part rest values its_pairs
+    answered.in_order.in_range own on_part (on_rest own)
 
 pub belief_of_others-miss-requires : goal.belief_of_others-miss-requires
 belief_of_others-miss-requires g c =
     let a = c.requires in let network = c.args.net.now in let asked = c.args.asked.now in let m = weights_of network a.tree a.history in
-    can_ask network a.tree a.history a.user a.is_open asked a.answered g.P.Engine.stands_for
-    c.belief-hit.new.self m c.args.at c.values-values.result
-    (c.belief-hit.ensures.kept m a.stands) refl refl a.held
-    (room_of_weights network a.tree a.history a.user a.is_open asked a.answered)
+    can_ask_weights network a.tree a.history a.user a.is_open asked a.answered
+    g.P.Engine.stands_for c.belief-hit.new.self c.args.at c.values-values.result
+    (c.belief-hit.ensures.kept m a.stands) a.held
     (sized_as network asked c.target.result c.values-values.result c.target.ensures c.values-values.ensures)
 
 pub open_bounds-requires : goal.open_bounds-requires
 open_bounds-requires g c =
     let a = c.requires in let network = c.args.net.now in let asked = c.args.asked.now in let m = weights_of network a.tree a.history in
     let sized = sized_as network asked c.target.result c.values-values.result c.target.ensures c.values-values.ensures in
-    let sides = found_in network a.tree a.history a.is_open asked a.answered c.event.result c.belief-hit.result c.belief_of_others-miss.result c.values-values.result c.event.ensures.pairs sized
-    (c.belief-hit.ensures.belief m a.stands) (c.belief_of_others-miss.ensures.belief m (c.belief-hit.ensures.kept m a.stands) sized) in
+    let sides = found_in network a.tree a.history a.is_open asked a.answered c.target.result
+    c.event.result c.belief-hit.result c.belief_of_others-miss.result c.values-values.result
+    c.target.ensures c.event.ensures.pairs c.values-values.ensures
+    (c.belief-hit.ensures.belief m a.stands)
+    (c.belief_of_others-miss.ensures.belief m (c.belief-hit.ensures.kept m a.stands)) in
     record {
       network = network;
       tree = a.tree;
       history = a.history;
-      user = a.user;
-      owns = a.owns;
-      is_open = a.is_open;
-      answered = a.answered;
-      held = a.held;
+      asks = record {
+        user = a.user;
+        owns = a.owns;
+        is_open = a.is_open;
+        answered = a.answered;
+        held = a.held;
+      };
       sized = sized;
       part = hit_present network a.history asked c.belief-hit.result c.belief_of_others-miss.result sides c.in-Present-Present.hit c.in-Present-Present.is-0;
       rest = miss_present network a.history asked c.belief-hit.result c.belief_of_others-miss.result sides c.in-Present-Present.miss c.in-Present-Present.is-1;
@@ -73,8 +83,11 @@ pub returns-in-Present-Present-clause-sides : goal.returns-in-Present-Present-cl
 returns-in-Present-Present-clause-sides g c = λ tree H u stands owns is_open answered.
     let network = c.args.net.now in let asked = c.args.asked.now in let m = weights_of network tree H in
     let sized = sized_as network asked c.target.result c.values-values.result c.target.ensures c.values-values.ensures in
-    let sides = found_in network tree H is_open asked answered c.event.result c.belief-hit.result c.belief_of_others-miss.result c.values-values.result c.event.ensures.pairs sized
-    (c.belief-hit.ensures.belief m stands) (c.belief_of_others-miss.ensures.belief m (c.belief-hit.ensures.kept m stands) sized) in
+    let sides = found_in network tree H is_open asked answered c.target.result c.event.result
+    c.belief-hit.result c.belief_of_others-miss.result c.values-values.result
+    c.target.ensures c.event.ensures.pairs c.values-values.ensures
+    (c.belief-hit.ensures.belief m stands)
+    (c.belief_of_others-miss.ensures.belief m (c.belief-hit.ensures.kept m stands)) in
     let hit = c.in-Present-Present.hit in let miss = c.in-Present-Present.miss in (
       both_come network H asked c.belief-hit.result c.belief_of_others-miss.result sides hit miss c.in-Present-Present.is-0 c.in-Present-Present.is-1,
       λ on_hit on_miss both. c.open_bounds.ensures.bounds network tree H u on_hit on_miss owns is_open answered sized
@@ -89,10 +102,10 @@ returns-in-Present-Present-clause-bounded g c = λ tree H u most stands owns is_
     let m = weights_of network tree H in
     let sized = sized_as network asked c.target.result c.values-values.result c.target.ensures
     c.values-values.ensures in
-    let sides = found_in network tree H is_open asked answered c.event.result c.belief-hit.result
-    c.belief_of_others-miss.result c.values-values.result c.event.ensures.pairs sized
-    (c.belief-hit.ensures.belief m stands)
-    (c.belief_of_others-miss.ensures.belief m (c.belief-hit.ensures.kept m stands) sized) in
+    let sides = found_in network tree H is_open asked answered c.target.result c.event.result
+    c.belief-hit.result c.belief_of_others-miss.result c.values-values.result c.target.ensures
+    c.event.ensures.pairs c.values-values.ensures (c.belief-hit.ensures.belief m stands)
+    (c.belief_of_others-miss.ensures.belief m (c.belief-hit.ensures.kept m stands)) in
     let hit = hit_present network H asked c.belief-hit.result c.belief_of_others-miss.result sides
     c.in-Present-Present.hit c.in-Present-Present.is-0 in
     let miss = miss_present network H asked c.belief-hit.result c.belief_of_others-miss.result sides
@@ -138,25 +151,31 @@ returns-in-Present-Present-clause-bounded g c = λ tree H u most stands owns is_
 pub returns-in-Present-Absent-clause-sides : goal.returns-in-Present-Absent-clause-sides
 returns-in-Present-Absent-clause-sides g c = λ tree H u stands owns is_open answered.
     let network = c.args.net.now in let asked = c.args.asked.now in let m = weights_of network tree H in
-    let sized = sized_as network asked c.target.result c.values-values.result c.target.ensures c.values-values.ensures in
-    let sides = found_in network tree H is_open asked answered c.event.result c.belief-hit.result c.belief_of_others-miss.result c.values-values.result c.event.ensures.pairs sized
-    (c.belief-hit.ensures.belief m stands) (c.belief_of_others-miss.ensures.belief m (c.belief-hit.ensures.kept m stands) sized) in
+    let sides = found_in network tree H is_open asked answered c.target.result c.event.result
+    c.belief-hit.result c.belief_of_others-miss.result c.values-values.result
+    c.target.ensures c.event.ensures.pairs c.values-values.ensures
+    (c.belief-hit.ensures.belief m stands)
+    (c.belief_of_others-miss.ensures.belief m (c.belief-hit.ensures.kept m stands)) in
     target_sure network H asked c.belief-hit.result c.belief_of_others-miss.result sides is_open.legal is_open.proper c.in-Present-Absent.field-0-0
     c.in-Present-Absent.is-0 c.in-Present-Absent.is-1
 
 pub returns-in-Absent-Absent-clause-sides : goal.returns-in-Absent-Absent-clause-sides
 returns-in-Absent-Absent-clause-sides g c = λ tree H u stands owns is_open answered.
     let network = c.args.net.now in let asked = c.args.asked.now in let m = weights_of network tree H in
-    let sized = sized_as network asked c.target.result c.values-values.result c.target.ensures c.values-values.ensures in
-    let sides = found_in network tree H is_open asked answered c.event.result c.belief-hit.result c.belief_of_others-miss.result c.values-values.result c.event.ensures.pairs sized
-    (c.belief-hit.ensures.belief m stands) (c.belief_of_others-miss.ensures.belief m (c.belief-hit.ensures.kept m stands) sized) in
+    let sides = found_in network tree H is_open asked answered c.target.result c.event.result
+    c.belief-hit.result c.belief_of_others-miss.result c.values-values.result
+    c.target.ensures c.event.ensures.pairs c.values-values.ensures
+    (c.belief-hit.ensures.belief m stands)
+    (c.belief_of_others-miss.ensures.belief m (c.belief-hit.ensures.kept m stands)) in
     neither_comes network H asked c.belief-hit.result c.belief_of_others-miss.result sides is_open.legal is_open.proper c.in-Absent-Absent.is-0 c.in-Absent-Absent.is-1
 
 pub returns-in-Absent-Present-clause-sides : goal.returns-in-Absent-Present-clause-sides
 returns-in-Absent-Present-clause-sides g c = λ tree H u stands owns is_open answered.
     let network = c.args.net.now in let asked = c.args.asked.now in let m = weights_of network tree H in
-    let sized = sized_as network asked c.target.result c.values-values.result c.target.ensures c.values-values.ensures in
-    let sides = found_in network tree H is_open asked answered c.event.result c.belief-hit.result c.belief_of_others-miss.result c.values-values.result c.event.ensures.pairs sized
-    (c.belief-hit.ensures.belief m stands) (c.belief_of_others-miss.ensures.belief m (c.belief-hit.ensures.kept m stands) sized) in
+    let sides = found_in network tree H is_open asked answered c.target.result c.event.result
+    c.belief-hit.result c.belief_of_others-miss.result c.values-values.result
+    c.target.ensures c.event.ensures.pairs c.values-values.ensures
+    (c.belief-hit.ensures.belief m stands)
+    (c.belief_of_others-miss.ensures.belief m (c.belief-hit.ensures.kept m stands)) in
     target_never network H asked c.belief-hit.result c.belief_of_others-miss.result sides is_open.legal is_open.proper c.in-Absent-Present.field-0-1
     c.in-Absent-Present.is-0 c.in-Absent-Present.is-1

@@ -17,25 +17,30 @@ pub least-hit_factor-requires-clause-held : goal.least-hit_factor-requires-claus
 least-hit_factor-requires-clause-held g c =
     let a = c.requires in
     g.met.A.Engine.held_is_answered c.args.assets.now.engine
-    (gains_of a.network a.tree a.history a.user) c.args.at c.event.result a.owns.stands
-    (question_is_held a.tree c.args.at c.args.asked.now c.event.result c.event.ensures.pairs a.held)
+    (gains_of a.network a.tree a.history a.asks.user) c.args.at c.event.result a.asks.owns.stands
+    (question_is_held a.tree c.args.at c.args.asked.now c.event.result c.event.ensures.pairs
+    a.asks.held)
 
 pub least-hit_factor-requires-clause-range : goal.least-hit_factor-requires-clause-range
 least-hit_factor-requires-clause-range g c =
     let a = c.requires in
     record {
-      holding = holding_of a.network a.tree a.history a.user;
-      owns = a.owns;
-      in_range = event_fits a.network c.args.asked.now c.event.result c.event.ensures.pairs a.answered.in_order.in_range;
+      holding = holding_of a.network a.tree a.history a.asks.user;
+      owns = a.asks.owns;
+      in_range = event_fits a.network c.args.asked.now c.event.result c.event.ensures.pairs
+          a.asks.answered.in_order.in_range;
     }
 
 pub least_of_others-miss_factor-requires : goal.least_of_others-miss_factor-requires
 least_of_others-miss_factor-requires g c =
-    let a = c.requires in let asked = c.args.asked.now in let h = holding_of a.network a.tree a.history a.user in
-    can_ask a.network a.tree a.history a.user a.is_open asked a.answered g.A.Engine.stands_for
+    let a = c.requires in let asked = c.args.asked.now in let h = holding_of a.network a.tree
+    a.history a.asks.user in
+    can_ask a.network a.tree a.history a.asks.user a.asks.is_open asked a.asks.answered
+    g.A.Engine.stands_for
     c.least-hit_factor.new.self.engine h.meaning c.args.at c.args.values
-    (c.least-hit_factor.ensures.kept h a.owns).stands refl refl a.held
-    (room_of_gains a.network a.tree a.history a.user a.is_open asked a.answered) a.sized
+    (c.least-hit_factor.ensures.kept h a.asks.owns).stands refl refl a.asks.held
+    (room_of_gains a.network a.tree a.history a.asks.user a.asks.is_open asked a.asks.answered)
+    a.sized
 
 pub add-requires : goal.add-requires
 add-requires g c =
@@ -45,15 +50,20 @@ add-requires g c =
 pub factor_of-requires : goal.factor_of-requires
 factor_of-requires g c =
     let a = c.requires in let asked = c.args.asked.now in
-    some_hit a.network a.tree a.history a.user a.is_open asked a.answered c.event.result c.event.ensures.pairs _ c.least-hit_factor.result
-    (c.least-hit_factor.ensures.least (holding_of a.network a.tree a.history a.user) a.owns)
+    some_hit a.network a.tree a.history a.asks.user a.asks.is_open asked a.asks.answered
+    c.event.result c.event.ensures.pairs _ c.least-hit_factor.result
+    (c.least-hit_factor.ensures.least (holding_of a.network a.tree a.history a.asks.user)
+    a.asks.owns)
     (present_comes a.network a.history (with_target asked) c.args.hit.now a.part.encloses)
 
 pub factor_of-requires-2 : goal.factor_of-requires-2
 factor_of-requires-2 g c =
-    let a = c.requires in let asked = c.args.asked.now in let h = holding_of a.network a.tree a.history a.user in
-    some_miss a.network a.tree a.history a.user a.is_open asked a.answered c.args.values a.sized _ c.least_of_others-miss_factor.result
-    (c.least_of_others-miss_factor.ensures.least h (c.least-hit_factor.ensures.kept h a.owns) a.sized)
+    let a = c.requires in let asked = c.args.asked.now in let h = holding_of a.network a.tree
+    a.history a.asks.user in
+    some_miss a.network a.tree a.history a.asks.user a.asks.is_open asked a.asks.answered
+    c.args.values a.sized _ c.least_of_others-miss_factor.result
+    (c.least_of_others-miss_factor.ensures.least h (c.least-hit_factor.ensures.kept h a.asks.owns)
+    a.sized)
     (present_comes a.network a.history (without_target asked) c.args.miss.now a.rest.encloses)
 
 pub returns-clause-kept_assets : goal.returns-clause-kept_assets

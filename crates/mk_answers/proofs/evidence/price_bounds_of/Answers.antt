@@ -1,4 +1,4 @@
-use Rattle.std.proofs.Common.{◌≡◌, ◌+◌, ◌-◌, [], Some, refl, subst, arith}
+use Rattle.std.proofs.Common.{◌≡◌, ◌+◌, ◌-◌, [], Some, subst, arith}
 use Rattle.mk_net.specs.Bounds.{max_values}
 use Rattle.std.specs.Prelude.{slice_index}
 use Rattle.mk_net.specs.Network.{sizes}
@@ -12,12 +12,12 @@ use Rattle.mk_judge.specs.declared.price.PriceBounds.TheVariants.{Between}
 use Rattle.mk_enclose.specs.Enclosure.{widest_grade}
 use Rattle.mk_beliefs.specs.Meanings.{weights_of}
 use Rattle.mk_answers.specs.inner.Found.{IsBeliefIn}
-use Rattle.mk_answers.proofs.Bounding.{can_ask, room_of_weights, found_of}
+use Rattle.mk_answers.proofs.Bounding.{can_ask_weights, found_of}
 use Rattle.mk_answers.proofs.Homes.{condition_is_held}
 use Rattle.mk_answers.proofs.NoZeros.{hit_some, miss_some, condition_some, none_of}
 use Rattle.mk_answers.proofs.Priced.{bounded_between, belief_is_few}
 use Rattle.mk_answers.proofs.Regraded.{graded_within, held_grade, bounded_regraded}
-use Rattle.mk_answers.proofs.Weights.{is_there, hit_in, part_in, miss_in, condition_in}
+use Rattle.mk_answers.proofs.Weights.{is_there, hit_in, part_in, sides_in, has_sides, condition_in}
 use Rattle.mk_answers.proofs.evidence.price_bounds_of.Goals as goal
 
 pub belief_of_others-rest-requires : goal.belief_of_others-rest-requires
@@ -26,10 +26,9 @@ belief_of_others-rest-requires g c =
     let m = weights_of network a.tree a.history in
     let sized : c.values-values.result ≡ slice_index (sizes network) asked.target.variable =
     rw c.target.ensures at c.values-values.ensures in
-    can_ask network a.tree a.history 0 a.is_open asked a.answered g.P.Engine.stands_for
-    c.belief-part.new.self m c.args.at c.values-values.result
-    (c.belief-part.ensures.kept m a.stands) refl refl a.held
-    (room_of_weights network a.tree a.history 0 a.is_open asked a.answered) sized
+    can_ask_weights network a.tree a.history 0 a.is_open asked a.answered g.P.Engine.stands_for
+    c.belief-part.new.self c.args.at c.values-values.result
+    (c.belief-part.ensures.kept m a.stands) a.held sized
 
 pub bounds_of_beliefs-requires : goal.bounds_of_beliefs-requires
 bounds_of_beliefs-requires g c =
@@ -37,19 +36,10 @@ bounds_of_beliefs-requires g c =
     let m = weights_of network a.tree a.history in
     let sized : c.values-values.result ≡ slice_index (sizes network) asked.target.variable =
     rw c.target.ensures at c.values-values.ensures in
-    record {
-      network = network;
-      history = a.history;
-      asked = asked;
-      sides = record {
-        hit = hit_in network a.tree a.history a.is_open asked c.event.result c.belief-part.result
-            c.event.ensures.pairs (c.belief-part.ensures.belief m a.stands);
-        miss = miss_in network a.tree a.history a.is_open asked c.values-values.result
-            c.belief_of_others-rest.result a.answered.in_order.in_range sized
-            (c.belief_of_others-rest.ensures.belief m (c.belief-part.ensures.kept m a.stands)
-            sized);
-      };
-    }
+    has_sides network a.history asked _ _
+    (sides_in network a.tree a.history a.is_open asked _ _ _ _ c.event.ensures.pairs
+    a.answered.in_order.in_range sized (c.belief-part.ensures.belief m a.stands)
+    (c.belief_of_others-rest.ensures.belief m (c.belief-part.ensures.kept m a.stands) sized))
 
 pub returns-then-not-is_empty-clause-bounds : goal.returns-then-not-is_empty-clause-bounds
 returns-then-not-is_empty-clause-bounds g c = λ tree H most stands is_open answered room.
@@ -59,13 +49,10 @@ returns-then-not-is_empty-clause-bounds g c = λ tree H most stands is_open answ
     rw c.target.ensures at c.values-values.ensures in
     let of = g.P.Engine.grade_of m in
     bounded_regraded network H widest_grade most asked c.bounds_of_beliefs.result
-    (c.bounds_of_beliefs.ensures.bounds network H asked is_open.legal is_open.proper (record {
-      hit = hit_in network tree H is_open asked c.event.result c.belief-part.result
-          c.event.ensures.pairs (c.belief-part.ensures.belief m stands);
-      miss = miss_in network tree H is_open asked c.values-values.result
-          c.belief_of_others-rest.result answered.in_order.in_range sized
-          (c.belief_of_others-rest.ensures.belief m (c.belief-part.ensures.kept m stands) sized);
-    }))
+    (c.bounds_of_beliefs.ensures.bounds network H asked is_open.legal is_open.proper
+    (sides_in network tree H is_open asked _ _ _ _ c.event.ensures.pairs
+    answered.in_order.in_range sized (c.belief-part.ensures.belief m stands)
+    (c.belief_of_others-rest.ensures.belief m (c.belief-part.ensures.kept m stands) sized)))
     (c.bounds_of_beliefs.ensures.graded (of + (max_values - 1)) most
     (held_grade_more c.belief-part.result of (of + (max_values - 1))
     (c.belief-part.ensures.graded m stands) (omega arith))

@@ -1,4 +1,4 @@
-use Rattle.std.proofs.Common.{◌≡◌, [], refl, subst}
+use Rattle.std.proofs.Common.{◌≡◌, [], subst}
 use Rattle.mk_states.specs.Events.{holds, with_target}
 use Rattle.mk_exact.specs.Weight.{IsSmall, total}
 use Rattle.mk_net.specs.Network.{sizes}
@@ -7,12 +7,12 @@ use Rattle.std.specs.Prelude.{slice_index}
 use Rattle.mk_semiring.specs.declared.held.Held.{Held}
 use Rattle.mk_beliefs.specs.Meanings.{weights_of}
 use Rattle.mk_answers.specs.inner.Found.{IsBeliefIn}
-use Rattle.mk_answers.proofs.Bounding.{can_ask, room_of_weights, found_of}
+use Rattle.mk_answers.proofs.Bounding.{can_ask_weights, found_of}
 use Rattle.mk_answers.proofs.Homes.{condition_is_held}
 use Rattle.mk_answers.proofs.NoZeros.{hit_some, miss_some, condition_some, none_of}
 use Rattle.mk_answers.proofs.Sided.{priced}
 use Rattle.mk_answers.proofs.Regraded.{graded_of_present}
-use Rattle.mk_answers.proofs.Weights.{is_there, hit_in, part_in, miss_in, condition_in}
+use Rattle.mk_answers.proofs.Weights.{is_there, hit_in, part_in, sides_in, has_sides, condition_in}
 use Rattle.mk_answers.proofs.Weights.{event_graded, others_graded, ends_in_order, interval_covers}
 use Rattle.mk_answers.proofs.price.price_of.Goals as goal
 
@@ -20,26 +20,18 @@ pub belief_of_others-rest-requires : goal.belief_of_others-rest-requires
 belief_of_others-rest-requires g c =
     let a = c.requires in let network = c.args.net.now in let asked = c.args.asked.now in let m = weights_of network a.tree a.history in
     let sized : c.values-values.result ≡ slice_index (sizes network) asked.target.variable = rw c.target.ensures at c.values-values.ensures in
-    can_ask network a.tree a.history 0 a.is_open asked a.answered g.P.Engine.stands_for
-    c.belief-part.new.self m c.args.at c.values-values.result
-    (c.belief-part.ensures.kept m a.stands) refl refl a.held
-    (room_of_weights network a.tree a.history 0 a.is_open asked a.answered) sized
+    can_ask_weights network a.tree a.history 0 a.is_open asked a.answered g.P.Engine.stands_for
+    c.belief-part.new.self c.args.at c.values-values.result
+    (c.belief-part.ensures.kept m a.stands) a.held sized
 
 pub price_of_sides-requires : goal.price_of_sides-requires
 price_of_sides-requires g c =
     let a = c.requires in let network = c.args.net.now in let asked = c.args.asked.now in let m = weights_of network a.tree a.history in
     let sized : c.values-values.result ≡ slice_index (sizes network) asked.target.variable = rw c.target.ensures at c.values-values.ensures in
-    record {
-      network = network;
-      history = a.history;
-      asked = asked;
-      sides = record {
-        hit = hit_in network a.tree a.history a.is_open asked c.event.result c.belief-part.result c.event.ensures.pairs (c.belief-part.ensures.belief m a.stands);
-        miss =
-            miss_in network a.tree a.history a.is_open asked c.values-values.result c.belief_of_others-rest.result a.answered.in_order.in_range sized
-            (c.belief_of_others-rest.ensures.belief m (c.belief-part.ensures.kept m a.stands) sized);
-      };
-    }
+    has_sides network a.history asked _ _
+    (sides_in network a.tree a.history a.is_open asked _ _ _ _ c.event.ensures.pairs
+    a.answered.in_order.in_range sized (c.belief-part.ensures.belief m a.stands)
+    (c.belief_of_others-rest.ensures.belief m (c.belief-part.ensures.kept m a.stands) sized))
 
 pub returns-then-not-is_empty-clause-price : goal.returns-then-not-is_empty-clause-price
 returns-then-not-is_empty-clause-price g c = λ tree H most_trades stands is_open fit answered.
@@ -48,13 +40,9 @@ returns-then-not-is_empty-clause-price g c = λ tree H most_trades stands is_ope
     let on_part = c.belief-part.ensures.belief m stands in
     let on_rest =
     c.belief_of_others-rest.ensures.belief m (c.belief-part.ensures.kept m stands) sized in
-    c.price_of_sides.ensures network H most_trades asked is_open.legal is_open.proper (record {
-      hit = hit_in network tree H is_open asked c.event.result c.belief-part.result
-          c.event.ensures.pairs on_part;
-      miss =
-          miss_in network tree H is_open asked c.values-values.result c.belief_of_others-rest.result
-          answered.in_order.in_range sized on_rest;
-    })
+    c.price_of_sides.ensures network H most_trades asked is_open.legal is_open.proper
+    (sides_in network tree H is_open asked _ _ _ _ c.event.ensures.pairs
+    answered.in_order.in_range sized on_part on_rest)
     (event_graded network tree H is_open most_trades fit c.event.result c.belief-part.result
     on_part)
     (others_graded network tree H is_open most_trades fit asked c.values-values.result

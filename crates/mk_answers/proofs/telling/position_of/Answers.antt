@@ -1,15 +1,13 @@
 use Rattle.std.proofs.Common.{◌≡◌, ℕ, slice_index, refl, subst, arith}
 use Rattle.std.specs.List.{AllZip, range_with_len}
 use Rattle.mk_net.specs.Network.{sizes}
-use Rattle.mk_states.proofs.Shares.{few_values_at}
 use Rattle.mk_spread.specs.Spreads.{asked_of}
 use Rattle.mk_spread.specs.Told.{IsSureOf}
 use Rattle.mk_beliefs.specs.Meanings.{gains_of}
 use Rattle.mk_quote.specs.Questions.{spread_in}
 use Rattle.mk_answers.specs.Open.{holding_of}
 use Rattle.mk_answers.proofs.Homes.{condition_is_held}
-use Rattle.mk_answers.proofs.Told.{zip_more, only_none, none_comes, comes}
-use Rattle.mk_answers.proofs.Valued.{valued_at}
+use Rattle.mk_answers.proofs.Told.{zip_more, only_none, none_comes, comes, room_for_one, can_find_sure_at}
 use Rattle.mk_answers.proofs.telling.position_of.Goals as goal
 
 pub least-requires-clause-held : goal.least-requires-clause-held
@@ -28,45 +26,26 @@ returns-in_default-clause-position g c = λ tree H most_trades u owns is_open fi
     (only_none c.least.result c.in_default.not-Some)
 
 pub sure_of-requires-clause-assets : goal.sure_of-requires-clause-assets
-sure_of-requires-clause-assets g c =
-    let a = c.requires.assets in let net = c.args.net.now in
-    let value = c.loop-value.value in
-    rw c.question_at-question.ensures (record {
-      tree = a.tree;
-      history = a.history;
-      user = a.user;
-      owns = c.loop-value.invariant.kept_assets (holding_of net a.tree a.history a.user) a.owns;
-      is_open = a.is_open;
-      valued =
-          valued_at net a.tree a.history (spread_in c.args.asked.now) a.answered c.args.at value
-          (a.held value) (omega (arith, c.values-value-end.ensures, c.loop-value-test.true));
-    })
+sure_of-requires-clause-assets g c = rw c.question_at-question.ensures
+    (can_find_sure_at c.requires.assets _ c.loop-value.invariant.kept_assets c.loop-value.value _
+    c.values-value-end.ensures c.loop-value-test.true)
 
 pub push-requires : goal.push-requires
 push-requires g c =
-    let a = c.requires.assets in
-    let few = few_values_at c.args.net.now a.is_open.legal c.args.asked.now.variable
-    a.answered.in_order.in_range.variable in (
-      omega arith,
-      omega (
-        arith,
-        c.values-value-end.ensures,
-        c.loop-value-test.true,
-        c.loop-value.invariant.long,
-        few,
-      ),
-    )
+    let room = room_for_one c.requires.assets.is_open c.requires.assets.answered _ _ _
+    c.loop-value.invariant.long c.values-value-end.ensures c.loop-value-test.true in
+    (omega arith, room)
 
 pub loop-value-preserved : goal.loop-value-preserved
 loop-value-preserved g c =
-    let so_far = c.loop-value.invariant in let net = c.args.net.now in
-    let spread = spread_in c.args.asked.now in
+    let so_far = c.loop-value.invariant in let spread = spread_in c.args.asked.now in
     record {
       kept_assets = λ h owns. c.sure_of.ensures.kept_assets h (so_far.kept_assets h owns);
       long = omega (arith, so_far.long, c.push.ensures.len);
       sure = λ tree H most_trades u owns is_open fit sound.
           rw c.push.ensures.items
-          (zip_more (IsSureOf net H most_trades u c.args.points_per_bit spread) c.loop-value.value
+          (zip_more (IsSureOf c.args.net.now H most_trades u c.args.points_per_bit spread)
+          c.loop-value.value
           c.loop-value.intervals.items c.sure_of.result
           (so_far.sure tree H most_trades u owns is_open fit sound)
           (rw c.question_at-question.ensures at
