@@ -26,7 +26,8 @@ same_bounds : (first second : SpreadQuote) → Some (Some (Bounds first)) ≡ So
 same_bounds first second e = cc
 
 -- where no last quote for a spread was found, none that is kept is for it
-pub none_held : {X : Type 0} (quotes : List (Option LastQuote)) (u : ℕ) (spread : SpreadAsked) (now present : ℕ) (o : Option X) → ((x : X) → o ≡ Some x → ⊥) → now ≡ present
+none_held : {X : Type 0} (quotes : List (Option LastQuote)) (u : ℕ) (spread : SpreadAsked)
+    (now present : ℕ) (o : Option X) → ((x : X) → o ≡ Some x → ⊥) → now ≡ present
     → IfNone o ((held : SpreadQuote) → slice_get quotes u ≡ Some (Some (Bounds held)) → ¬ IsSpreadFor held spread now)
     → (held : SpreadQuote) → slice_get quotes u ≡ Some (Some (Bounds held)) → ¬ IsSpreadFor held spread present
 none_held quotes u spread now present None not_some same h held at for = h held at (subst (IsSpreadFor held spread) (sym same) for)
@@ -44,9 +45,19 @@ module _ (network : List Variable) (tree : GivenTree) (H : List Entry) (u : ℕ)
       }
 
   -- and else one made anew
-  pub fresh_judges : (quote : SpreadQuote) → IsSpreadQuoteOf network tree H u spread quote
+  fresh_judges : (quote : SpreadQuote) → IsSpreadQuoteOf network tree H u spread quote
       → ((held : SpreadQuote) → slice_get quotes u ≡ Some (Some (Bounds held)) → ¬ IsSpreadFor held spread (revision H)) → IsJudge network tree H u spread quotes quote
   fresh_judges quote its none = record { its = its; last = λ held there for. absurd (none held there for) }
+
+  -- so it is where no last quote was found
+  pub anew_judges : {X : Type 0} (quote : SpreadQuote)
+      → IsSpreadQuoteOf network tree H u spread quote → (now : ℕ) (o : Option X)
+      → ((x : X) → o ≡ Some x → ⊥) → now ≡ revision H
+      → IfNone o ((held : SpreadQuote) → slice_get quotes u ≡ Some (Some (Bounds held))
+      → ¬ IsSpreadFor held spread now)
+      → IsJudge network tree H u spread quotes quote
+  anew_judges quote its now o not_some same none = fresh_judges quote its
+      (none_held quotes u spread now (revision H) o not_some same none)
 
   module _ (quote : SpreadQuote) (judge : IsJudge network tree H u spread quotes quote) (Xs : List ℕ) where
     pub turned_down : (new_quotes : List (Option LastQuote)) (why : Stopped) → new_quotes ≡ quotes_behind quotes u quote why → IsStopped quote Xs why

@@ -2,6 +2,7 @@ pub mod Lent
 pub mod Owned
 pub mod Apart
 pub mod Learnt
+pub mod Asking
 pub mod Quotes
 pub mod Together
 pub mod Stopping

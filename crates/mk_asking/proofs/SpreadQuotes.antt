@@ -4,13 +4,13 @@ use Rattle.std.specs.Prelude.{length, Option}
 use Rattle.std.specs.Prelude.{slice_index, suc}
 use Rattle.std.proofs.Common.{refl, sym, ap, ◌∙◌, subst, arith}
 use Rattle.mk_net.specs.Network.{Variable, sizes}
-use Rattle.mk_exact.specs.History.{Entry}
+use Rattle.mk_exact.specs.History.{Entry, revision}
 use Rattle.mk_exact.specs.Limits.{Side}
 use Rattle.mk_exact.specs.Weight.{IsSmall}
 use Rattle.mk_spread.specs.Spreads.{SpreadAsked}
 use Rattle.mk_spread.specs.Bounds.{Intervals}
 use Rattle.mk_spread.specs.Existing.{HasValueSides}
-use Rattle.mk_spread.specs.Markets.{AreRightBoundsOf, IsFairList, IsValueSide, value_cannot_come}
+use Rattle.mk_spread.specs.Markets.{AreRightBoundsOf, AreValueSides, IsFairList, IsValueSide, value_cannot_come}
 use Rattle.mk_spread.specs.Markets.{values_left}
 use Rattle.mk_spread.proofs.Exist.{value_sides_exist}
 use Rattle.mk_spread.proofs.Listed.{ranged_length}
@@ -19,11 +19,14 @@ use Rattle.mk_spread.proofs.When.{units_when, bounds_when}
 use Rattle.mk_tree.specs.Given.{GivenTree}
 use Rattle.mk_quote.specs.declared.side.SideBounds.{SideBounds}
 use Rattle.mk_quote.specs.declared.spread_quote.SpreadQuote.{SpreadQuote}
+use Rattle.mk_quote.specs.declared.values.SpreadBounds.{SpreadBounds}
 use Rattle.mk_quote.specs.Values.{AreEachExact, AreRightForEach, AreFairForEach, EncloseEach}
-use Rattle.mk_quote.specs.Values.{has_no_side}
-use Rattle.mk_quote.specs.Spreads.{question_of, sides_of}
+use Rattle.mk_quote.specs.Values.{has_no_side, sides_in}
+use Rattle.mk_quote.specs.Spreads.{question_of, revision_of, sides_of, user_of}
 use Rattle.mk_quote.proofs.Suiting.{no_side_as}
-use Rattle.mk_answers.specs.Open.{IsOpen, AreSideBoundsFor}
+use Rattle.mk_answers.specs.Open.{IsOpen, CanBeSpreadHere, AreSideBoundsFor}
+use Rattle.mk_answers.specs.Results.{AreSpreadSidesFor}
+use Rattle.mk_answers.specs.declared.spread.SpreadSides.TheVariants.{Open}
 use Rattle.mk_record.specs.declared.last_quote.LastQuote.TheVariants.{Bounds as LastBounds}
 use Rattle.mk_asking.specs.Keeping.{IsKeptQuote}
 use Rattle.mk_asking.specs.Quoting.{IsSpreadQuoteOf}
@@ -34,6 +37,31 @@ enclosed_lengths [] [] h = refl
 enclosed_lengths [] (side ∷ sides) h = absurd h
 enclosed_lengths (value ∷ values) [] h = absurd h
 enclosed_lengths (value ∷ values) (side ∷ sides) h = ap suc (enclosed_lengths values sides h.1)
+
+-- a quote that is made of the bounds of each value, where two can come, is one of its spread
+pub made_of_bounds : (network : List Variable) (tree : GivenTree) (H : List Entry) (u : ℕ)
+    (spread : SpreadAsked) → CanBeSpreadHere network tree H spread → (bounds : SpreadBounds)
+    → AreSpreadSidesFor network H u spread (Open bounds) → (quote : SpreadQuote) → user_of quote ≡ u
+    → question_of quote ≡ spread → revision_of quote ≡ revision H
+    → sides_of quote ≡ sides_in bounds
+    → IsSpreadQuoteOf network tree H u spread quote
+made_of_bounds network tree H u spread answered bounds found quote its question present same =
+    record {
+      same_user = its;
+      question = question;
+      at_present = present;
+      current = record {
+        answered = subst (λ (s : SpreadAsked). CanBeSpreadHere network tree H s) (sym question)
+            answered;
+        two_left = subst (λ (s : SpreadAsked). 2 ≤ length (values_left network H s)) (sym question)
+            found.0;
+        bounds = λ sides are.
+            subst (λ (values : List (Option SideBounds)). AreSideBoundsFor values (IsSmall network H)
+            sides) (sym same)
+            (found.1 sides (subst (λ (s : SpreadAsked). AreValueSides network H u s sides) question
+            are));
+      };
+    }
 
 module _ (network : List Variable) (tree : GivenTree) (H : List Entry) (u : ℕ) (spread : SpreadAsked) (quote : SpreadQuote) (is : IsSpreadQuoteOf network tree H u spread quote) where
   pub kept_quote : IsKeptQuote network tree H u (LastBounds quote)

@@ -1,6 +1,7 @@
 -- What clauses of this crate cite of the crates below it.
 pub use Rattle.mk_answers.specs.Below.{Entry, GivenTree, IsNetwork, Meaning, sizes, weights_of}
 pub use Rattle.mk_answers.specs.Open.{CanBeAnswered, CanBeSpreadHere, holding_of, IsOpen}
+pub use Rattle.mk_answers.specs.Results.{AreSidesFor, AreSpreadSidesFor}
 pub use Rattle.mk_engine.specs.Meaning.{RatioOf, with_factor}
 pub use Rattle.mk_exact.specs.Sides.{ratio_in}
 pub use Rattle.mk_exact.specs.Weight.{cannot_come}

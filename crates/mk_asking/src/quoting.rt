@@ -1,7 +1,9 @@
 //! The quotes by which edits are judged.
 
-ghost use Rattle.std.specs.Prelude.{◌≡◌, ◌<◌, ℕ, length, Some, Ok, slice_get, IfSome, IfNone, MatchResult};
+ghost use Rattle.std.specs.Prelude.{◌≡◌, ◌<◌, ℕ, List, length, Some, Ok, slice_get};
+ghost use Rattle.std.specs.Prelude.{IfSome, IfNone, MatchResult};
 ghost use Rattle.mk_asking.specs.Below.{pairs_asked, revision, home, Meaning, IsFor, CanBeAnswered};
+ghost use Rattle.mk_asking.specs.Below.{AreSidesFor, Entry, GivenTree, Variable};
 ghost use Rattle.mk_asking.specs.Below.{names_of, quotes_of};
 ghost use Rattle.mk_quote.specs.declared.quote.Quote.{Quote as Held};
 ghost use Rattle.mk_asking.specs.Apart.{OwnApart};
@@ -48,8 +50,19 @@ pub fn fresh_quote<P: Engine<SumProd>, A: Engine<MinProd>>(
         home,
     } = *request;
     learn(users, file, journal, user);
-    match bounds_of(prices, users.assets(user), &file.net, home, &question) {
-        Sides::Open(bounds) => Ok(Quote::make(user, question, journal.revision(), &bounds)),
+    let sides = bounds_of(prices, users.assets(user), &file.net, home, &question);
+    quote_by(sides, user, question, journal.revision())
+}
+
+/// The quote that has the bounds of both sides of a question, or what decides the question.
+fn quote_by(sides: Sides, user: u32, question: Question, present: u64) -> Result<Quote, Decided>
+    ensures { (network : List Variable) (tree : GivenTree) (H : List Entry) → present ≡ revision H
+        → CanBeAnswered network tree H question → AreSidesFor network H user question sides
+        → MatchResult result (λ quote. IsQuoteOf network tree H user question quote)
+        (λ why. IsDecidedBy network H question why) }
+{
+    match sides {
+        Sides::Open(bounds) => Ok(Quote::make(user, question, present, &bounds)),
         Sides::Impossible => Err(Decided::Impossible),
         Sides::Never => Err(Decided::Never),
         Sides::Sure => Err(Decided::Sure),

@@ -1,9 +1,11 @@
 //! The quotes by which spreads are judged.
 
-ghost use Rattle.std.specs.Prelude.{◌≡◌, ◌<◌, ◌≤◌, ℕ, length, Some, slice_get, slice_index, IfSome, IfNone, MatchResult};
+ghost use Rattle.std.specs.Prelude.{◌≡◌, ◌<◌, ◌≤◌, ℕ, List, length, Some, slice_get};
+ghost use Rattle.std.specs.Prelude.{slice_index, IfSome, IfNone, MatchResult};
 ghost use Rattle.mk_asking.specs.Below.{max_values, pairs_asked, sizes, asked_of, home, Meaning};
 ghost use Rattle.mk_asking.specs.Below.{spread_in, sides_of, IsSpreadFor, CanBeSpreadHere};
-ghost use Rattle.mk_asking.specs.Below.{names_of, quotes_of};
+ghost use Rattle.mk_asking.specs.Below.{AreSpreadSidesFor, Entry, GivenTree, Variable};
+ghost use Rattle.mk_asking.specs.Below.{names_of, quotes_of, revision};
 ghost use Rattle.mk_quote.specs.declared.spread_quote.SpreadQuote.{SpreadQuote as Held};
 ghost use Rattle.mk_asking.specs.Apart.{OwnApart};
 ghost use Rattle.mk_asking.specs.Keeping.{AreHeld, AreKeptQuotes};
@@ -50,13 +52,26 @@ pub fn fresh_spread_quote<P: Engine<SumProd>, A: Engine<MinProd>>(
         home,
     } = *request;
     learn(users, file, journal, user);
-    match spread_bounds_of(prices, users.assets(user), &file.net, home, &question) {
-        SpreadSides::Open(bounds) => Ok(SpreadQuote::make(
-            user,
-            question,
-            journal.revision(),
-            &bounds,
-        )),
+    let sides = spread_bounds_of(prices, users.assets(user), &file.net, home, &question);
+    spread_quote_by(sides, user, question, journal.revision())
+}
+
+/// The quote that has the bounds of each value for a user, or what decides the spread.
+fn spread_quote_by(
+    sides: SpreadSides,
+    user: u32,
+    question: SpreadQuestion,
+    present: u64,
+) -> Result<SpreadQuote, SpreadDecided>
+    ensures { (network : List Variable) (tree : GivenTree) (H : List Entry) → present ≡ revision H
+        → CanBeSpreadHere network tree H (spread_in question)
+        → AreSpreadSidesFor network H user (spread_in question) sides
+        → MatchResult result
+        (λ quote. IsSpreadQuoteOf network tree H user (spread_in question) quote)
+        (λ why. IsSpreadDecidedBy network H (spread_in question) why) }
+{
+    match sides {
+        SpreadSides::Open(bounds) => Ok(SpreadQuote::make(user, question, present, &bounds)),
         SpreadSides::Impossible => Err(SpreadDecided::Impossible),
         SpreadSides::Sure(value) => Err(SpreadDecided::Sure(value)),
     }

@@ -11,25 +11,20 @@ learn-requires g c =
     c.args.users.now c.requires.held c.args.user c.assets.result.now c.assets.result.now
     c.assets.ensures.value c.requires.is_open c.known.result.now c.known.ensures.same
 
-pub returns-clause-learnt : goal.returns-clause-learnt
-returns-clause-learnt g c =
-    owned_then g.A.Engine.stands_for c.args.file.now.net c.args.file.now.tree c.args.journal.now.history
-    c.args.users.now c.requires.held c.args.user c.assets.result.now c.learn.new.self
-    c.assets.ensures.value (c.learn.ensures (holding_of c.args.file.now.net c.args.file.now.tree c.args.journal.now.history c.args.user)
-    (c.requires.held c.args.user c.assets.result.now c.assets.ensures.value) refl (sym c.known.ensures.same))
-
-pub returns-clause-held : goal.returns-clause-held
-returns-clause-held g c =
-    held_learnt g.A.Engine.stands_for c.args.file.now.net c.args.file.now.tree c.args.journal.now.history
-    c.args.users.now c.requires.held c.args.user c.assets.result.now c.learn.new.self
-    c.assets.ensures.value (c.learn.ensures (holding_of c.args.file.now.net c.args.file.now.tree c.args.journal.now.history c.args.user)
-    (c.requires.held c.args.user c.assets.result.now c.assets.ensures.value) refl (sym c.known.ensures.same))
-
-pub returns-clause-names : goal.returns-clause-names
-returns-clause-names g c = names_stay c.args.users.now c.args.user c.learn.new.self
-
-pub returns-clause-quotes : goal.returns-clause-quotes
-returns-clause-quotes g c = quotes_stay c.args.users.now c.args.user c.learn.new.self
-
-pub returns-clause-apart : goal.returns-clause-apart
-returns-clause-apart g c = apart_lent c.args.users.now c.args.user c.learn.new.self
+pub returns : goal.returns
+returns g c =
+    let net = c.args.file.now.net in let tree = c.args.file.now.tree in let H =
+    c.args.journal.now.history in let members = c.args.users.now in let user = c.args.user in
+    let lent = c.assets.result.now in let there = c.assets.ensures.value in
+    let learnt = c.learn.ensures (holding_of net tree H user) (c.requires.held user lent there) refl
+    (sym c.known.ensures.same) in
+    let S = g.A.Engine.stands_for in
+    record {
+      learnt = owned_then S net tree H members c.requires.held user lent c.learn.new.self there
+          learnt;
+      held = held_learnt S net tree H members c.requires.held user lent c.learn.new.self there
+          learnt;
+      names = names_stay members user c.learn.new.self;
+      apart = apart_lent members user c.learn.new.self;
+      quotes = quotes_stay members user c.learn.new.self;
+    }

@@ -1,112 +1,34 @@
-use Rattle.std.proofs.Common.{◌≤◌, List, length, Option, sym, subst, ◌∙◌}
-use Rattle.mk_exact.specs.Weight.{IsSmall}
-use Rattle.mk_spread.specs.Markets.{AreValueSides, values_left}
-use Rattle.mk_spread.specs.Spreads.{SpreadAsked}
-use Rattle.mk_quote.specs.declared.side.SideBounds.{SideBounds}
-use Rattle.mk_answers.specs.Open.{CanBeSpreadHere, AreSideBoundsFor}
-use Rattle.mk_quote.specs.Questions.{spread_in}
-use Rattle.mk_record.proofs.SpreadRefusals.{value_is_held}
-use Rattle.mk_asking.proofs.Apart.{apart_lent, apart_then}
-use Rattle.mk_asking.proofs.Learnt.{held_asked, still_in_range}
-use Rattle.mk_asking.proofs.Lent.{names_stay, quotes_stay}
+use Rattle.mk_asking.proofs.Asking.{can_bound_spread, learnt_asked}
+use Rattle.mk_asking.proofs.Learnt.{still_in_range}
 use Rattle.mk_asking.proofs.spread_quoting.fresh_spread_quote.Goals as goal
 
 pub assets-requires : goal.assets-requires
 assets-requires g c = still_in_range c.args.users.now c.learn.new.users c.args.request.now.user c.learn.ensures.names c.requires.user
 
-pub spread_bounds_of-requires : goal.spread_bounds_of-requires
-spread_bounds_of-requires g c =
+pub spread_bounds_of-sides-requires : goal.spread_bounds_of-sides-requires
+spread_bounds_of-sides-requires g c =
     let a = c.requires in
-    record {
-      tree = c.args.file.now.tree;
-      history = c.args.journal.now.history;
-      user = c.args.request.now.user;
-      stands = a.in_use.weights;
-      owns = c.learn.ensures.learnt c.assets.result.now c.assets.ensures.value;
-      is_open = a.in_use.is_open;
-      answered = a.answered;
-      held = λ value. value_is_held c.args.file.now.tree c.args.request.now.home
-          (spread_in c.args.request.now.question) value a.home;
-    }
+    can_bound_spread g.P.Engine.stands_for c.args.request.now.user a.in_use.is_open a.in_use.weights
+    (c.learn.ensures.learnt c.assets.result.now c.assets.ensures.value) a.answered a.home
 
-pub returns-in-Open-clause-held : goal.returns-in-Open-clause-held
-returns-in-Open-clause-held g c =
-    held_asked g.A.Engine.stands_for c.args.file.now.net c.args.file.now.tree c.args.journal.now.history c.learn.new.users c.learn.ensures.held c.args.request.now.user c.assets.result.now c.spread_bounds_of.new.assets c.assets.ensures.value c.spread_bounds_of.ensures.kept_assets
-
-pub returns-in-Open-clause-names : goal.returns-in-Open-clause-names
-returns-in-Open-clause-names g c = names_stay c.learn.new.users c.args.request.now.user c.spread_bounds_of.new.assets ∙ c.learn.ensures.names
-
-pub returns-in-Open-clause-quotes : goal.returns-in-Open-clause-quotes
-returns-in-Open-clause-quotes g c = quotes_stay c.learn.new.users c.args.request.now.user c.spread_bounds_of.new.assets ∙ c.learn.ensures.quotes
-
-pub returns-in-Impossible-clause-held : goal.returns-in-Impossible-clause-held
-returns-in-Impossible-clause-held g c =
-    held_asked g.A.Engine.stands_for c.args.file.now.net c.args.file.now.tree c.args.journal.now.history c.learn.new.users c.learn.ensures.held c.args.request.now.user c.assets.result.now c.spread_bounds_of.new.assets c.assets.ensures.value c.spread_bounds_of.ensures.kept_assets
-
-pub returns-in-Impossible-clause-names : goal.returns-in-Impossible-clause-names
-returns-in-Impossible-clause-names g c = names_stay c.learn.new.users c.args.request.now.user c.spread_bounds_of.new.assets ∙ c.learn.ensures.names
-
-pub returns-in-Impossible-clause-quotes : goal.returns-in-Impossible-clause-quotes
-returns-in-Impossible-clause-quotes g c = quotes_stay c.learn.new.users c.args.request.now.user c.spread_bounds_of.new.assets ∙ c.learn.ensures.quotes
-
-pub returns-in-Sure-clause-held : goal.returns-in-Sure-clause-held
-returns-in-Sure-clause-held g c =
-    held_asked g.A.Engine.stands_for c.args.file.now.net c.args.file.now.tree c.args.journal.now.history c.learn.new.users c.learn.ensures.held c.args.request.now.user c.assets.result.now c.spread_bounds_of.new.assets c.assets.ensures.value c.spread_bounds_of.ensures.kept_assets
-
-pub returns-in-Sure-clause-names : goal.returns-in-Sure-clause-names
-returns-in-Sure-clause-names g c = names_stay c.learn.new.users c.args.request.now.user c.spread_bounds_of.new.assets ∙ c.learn.ensures.names
-
-pub returns-in-Sure-clause-quotes : goal.returns-in-Sure-clause-quotes
-returns-in-Sure-clause-quotes g c = quotes_stay c.learn.new.users c.args.request.now.user c.spread_bounds_of.new.assets ∙ c.learn.ensures.quotes
-
-pub returns-in-Impossible-clause-quote : goal.returns-in-Impossible-clause-quote
-returns-in-Impossible-clause-quote g c =
-    let a = c.requires in
-    c.in-Impossible.ensures.sides c.args.file.now.tree c.args.journal.now.history
-    c.args.request.now.user a.in_use.weights (c.learn.ensures.learnt c.assets.result.now c.assets.ensures.value)
-    a.in_use.is_open a.answered
-
-pub returns-in-Sure-clause-quote : goal.returns-in-Sure-clause-quote
-returns-in-Sure-clause-quote g c =
-    let a = c.requires in
-    c.in-Sure.ensures.sides c.args.file.now.tree c.args.journal.now.history c.args.request.now.user
-    a.in_use.weights (c.learn.ensures.learnt c.assets.result.now c.assets.ensures.value)
-    a.in_use.is_open a.answered
-
-pub returns-in-Open-clause-quote : goal.returns-in-Open-clause-quote
-returns-in-Open-clause-quote g c =
+pub returns : goal.returns
+returns g c =
     let a = c.requires in
     let net = c.args.file.now.net in
     let tree = c.args.file.now.tree in
     let H = c.args.journal.now.history in
-    let found = c.in-Open.ensures.sides tree H c.args.request.now.user a.in_use.weights
-    (c.learn.ensures.learnt c.assets.result.now c.assets.ensures.value)
-    a.in_use.is_open a.answered in
+    let left = learnt_asked g.A.Engine.stands_for net tree H c.args.users.now c.learn.new.users
+    c.args.request.now.user c.assets.result.now c.spread_bounds_of-sides.new.assets
+    c.learn.ensures.held c.learn.ensures.names c.learn.ensures.apart c.learn.ensures.quotes
+    c.assets.ensures.value c.spread_bounds_of-sides.ensures.kept_assets in
     record {
-      same_user = c.make.ensures.user;
-      question = c.make.ensures.question;
-      at_present = c.make.ensures.revision ∙ c.revision.ensures;
-      current = record {
-        answered = subst (λ (spread : SpreadAsked). CanBeSpreadHere net tree H spread) (sym c.make.ensures.question) a.answered;
-        two_left = subst (λ (spread : SpreadAsked). 2 ≤ length (values_left net H spread)) (sym c.make.ensures.question) (found.0);
-        bounds = λ sides are_sides.
-            subst (λ (values : List (Option SideBounds)). AreSideBoundsFor values (IsSmall net H) sides) (sym c.make.ensures.sides)
-            (found.1 sides (subst (λ (spread : SpreadAsked). AreValueSides net H
-            c.args.request.now.user spread sides) c.make.ensures.question are_sides));
-      };
+      prices = c.spread_bounds_of-sides.ensures.kept;
+      held = left.held;
+      names = left.names;
+      apart = left.apart;
+      quotes = left.quotes;
+      quote = c.spread_quote_by.ensures net tree H c.revision.ensures a.answered
+          (c.spread_bounds_of-sides.ensures.sides tree H c.args.request.now.user a.in_use.weights
+          (c.learn.ensures.learnt c.assets.result.now c.assets.ensures.value) a.in_use.is_open
+          a.answered);
     }
-
-pub returns-in-Open-clause-apart : goal.returns-in-Open-clause-apart
-returns-in-Open-clause-apart g c =
-    apart_then c.args.request.now.user c.args.users.now c.learn.new.users _ c.learn.ensures.apart
-    (apart_lent c.learn.new.users c.args.request.now.user c.spread_bounds_of.new.assets)
-
-pub returns-in-Impossible-clause-apart : goal.returns-in-Impossible-clause-apart
-returns-in-Impossible-clause-apart g c =
-    apart_then c.args.request.now.user c.args.users.now c.learn.new.users _ c.learn.ensures.apart
-    (apart_lent c.learn.new.users c.args.request.now.user c.spread_bounds_of.new.assets)
-
-pub returns-in-Sure-clause-apart : goal.returns-in-Sure-clause-apart
-returns-in-Sure-clause-apart g c =
-    apart_then c.args.request.now.user c.args.users.now c.learn.new.users _ c.learn.ensures.apart
-    (apart_lent c.learn.new.users c.args.request.now.user c.spread_bounds_of.new.assets)

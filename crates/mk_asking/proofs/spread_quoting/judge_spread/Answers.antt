@@ -1,6 +1,5 @@
-use Rattle.std.proofs.Common.{◌≡◌, ◌≤◌, ℕ, List, subst, sym, ap, ◌∙◌}
+use Rattle.std.proofs.Common.{◌≤◌, ℕ, List, subst, sym, ap, ◌∙◌}
 use Rattle.mk_net.specs.Bounds.{max_values}
-use Rattle.mk_exact.specs.History.{revision}
 use Rattle.mk_states.proofs.Shares.{few_values_at}
 use Rattle.mk_quote.specs.Questions.{spread_in}
 use Rattle.mk_quote.specs.Spreads.{IsSpreadFor}
@@ -8,9 +7,8 @@ use Rattle.mk_record.specs.declared.last_quote.LastQuote.TheVariants.{Bounds}
 use Rattle.mk_record.specs.declared.users.Member.{Member}
 use Rattle.mk_record.specs.Members.{names_of, assets_of, quotes_of}
 use Rattle.mk_asking.specs.Keeping.{AreHeld}
-use Rattle.mk_asking.specs.Quoting.{quotes_behind}
 use Rattle.mk_asking.proofs.Apart.{apart_same, apart_then, apart_quoted}
-use Rattle.mk_asking.proofs.Judging.{last_judges, fresh_judges, judged_by_last, taken, turned_down, behind_set, behind_left, none_held}
+use Rattle.mk_asking.proofs.Judging.{last_judges, anew_judges, judged_by_last, taken, turned_down, behind_set, behind_left}
 use Rattle.mk_asking.proofs.Quotes.{quote_was_set}
 use Rattle.mk_asking.proofs.SpreadQuotes.{as_many_sides}
 use Rattle.mk_asking.proofs.spread_quoting.judge_spread.Goals as goal
@@ -55,81 +53,61 @@ returns-in-Some-clause-judged g c =
 
 pub returns-in-Ok-judged_by-clause-judged : goal.returns-in-Ok-judged_by-clause-judged
 returns-in-Ok-judged_by-clause-judged g c =
-    let net = c.args.file.now.net in let tree = c.args.file.now.tree in let H =
-    c.args.journal.now.history in let spread = spread_in c.args.request.now.question in
-    let quotes = quotes_of c.args.users.now in let quote = c.in-Ok.quote in
-    let judge = fresh_judges net tree H c.args.request.now.user spread quotes quote
-    c.in-Ok.ensures.quote
-    (none_held quotes c.args.request.now.user spread c.revision.result (revision H)
-    c.last_spread_quote.result c.in_default.not-Some c.revision.ensures
-    c.last_spread_quote.ensures.none) in
-    taken net tree H c.args.request.now.user spread quotes quote judge c.args.shares.now
-    (quotes_of c.fresh_spread_quote.new.users) c.in-Ok-judged_by.units.items
+    let spread = spread_in c.args.request.now.question in
+    let quotes = quotes_of c.args.users.now in
+    taken c.args.file.now.net c.args.file.now.tree c.args.journal.now.history
+    c.args.request.now.user spread quotes c.in-Ok.quote
+    (anew_judges c.args.file.now.net c.args.file.now.tree c.args.journal.now.history
+    c.args.request.now.user spread quotes c.in-Ok.quote c.in-Ok.ensures.quote
+    c.revision.result c.last_spread_quote.result c.in_default.not-Some c.revision.ensures
+    c.last_spread_quote.ensures.none)
+    c.args.shares.now (quotes_of c.fresh_spread_quote.new.users) c.in-Ok-judged_by.units.items
     c.in-Ok.ensures.quotes c.in-Ok-judged_by.ensures
 
-pub returns-after-is_outside-clause-held : goal.returns-after-is_outside-clause-held
-returns-after-is_outside-clause-held g c =
-    elim c.if-is_outside.branch [
-      | then-is_outside w ↦
-          (let are = quote_was_set g.A.Engine.stands_for c.args.file.now.net c.args.file.now.tree c.args.journal.now.history c.args.users.now
-          c.fresh_spread_quote.new.users c.if-is_outside.users c.args.request.now.user
-          (Bounds c.in-Ok.quote) c.in-Ok.ensures.names c.in-Ok.ensures.quotes
-          c.in-Ok.ensures.held c.requires.user (w.users-is ∙ w.set_quote.ensures) in are.held)
-      | else-is_outside w ↦
-          subst (λ (members : List (Member g.row.A.Denot g.row.A-Plan.Denot)). AreHeld g.A.Engine.stands_for c.args.file.now.net c.args.file.now.tree c.args.journal.now.history members)
-          (sym w.users-is) c.in-Ok.ensures.held
-    ]
-
-pub returns-after-is_outside-clause-names : goal.returns-after-is_outside-clause-names
-returns-after-is_outside-clause-names g c =
-    elim c.if-is_outside.branch [
-      | then-is_outside w ↦
-          (let are = quote_was_set g.A.Engine.stands_for c.args.file.now.net c.args.file.now.tree c.args.journal.now.history c.args.users.now
-          c.fresh_spread_quote.new.users c.if-is_outside.users c.args.request.now.user
-          (Bounds c.in-Ok.quote) c.in-Ok.ensures.names c.in-Ok.ensures.quotes
-          c.in-Ok.ensures.held c.requires.user (w.users-is ∙ w.set_quote.ensures) in are.names)
-      | else-is_outside w ↦ ap names_of w.users-is ∙ c.in-Ok.ensures.names
-    ]
-
-pub returns-after-is_outside-clause-judged : goal.returns-after-is_outside-clause-judged
-returns-after-is_outside-clause-judged g c =
+pub returns-after-is_outside : goal.returns-after-is_outside
+returns-after-is_outside g c =
     let net = c.args.file.now.net in let tree = c.args.file.now.tree in let H =
-    c.args.journal.now.history in let spread = spread_in c.args.request.now.question in
+    c.args.journal.now.history in let u = c.args.request.now.user in
+    let spread = spread_in c.args.request.now.question in
     let quotes = quotes_of c.args.users.now in let quote = c.in-Ok.quote in
-    let judge = fresh_judges net tree H c.args.request.now.user spread quotes quote
-    c.in-Ok.ensures.quote
-    (none_held quotes c.args.request.now.user spread c.revision.result (revision H)
-    c.last_spread_quote.result c.in_default.not-Some c.revision.ensures
-    c.last_spread_quote.ensures.none) in
+    let made = c.in-Ok.ensures in
+    let members = c.args.users.now in
+    let mid = c.fresh_spread_quote.new.users in
+    let new_members = c.if-is_outside.users in
     let why = c.in-Err-judged_by.why in
-    let new_quotes = quotes_of c.if-is_outside.users in
-    let behind : new_quotes ≡ quotes_behind quotes c.args.request.now.user quote why
-    = elim c.if-is_outside.branch [
-      | then-is_outside w ↦
-          (let are = quote_was_set g.A.Engine.stands_for c.args.file.now.net c.args.file.now.tree c.args.journal.now.history c.args.users.now
-          c.fresh_spread_quote.new.users c.if-is_outside.users c.args.request.now.user
-          (Bounds c.in-Ok.quote) c.in-Ok.ensures.names c.in-Ok.ensures.quotes
-          c.in-Ok.ensures.held c.requires.user (w.users-is ∙ w.set_quote.ensures) in
-          behind_set net tree H c.args.request.now.user spread quotes quote judge c.args.shares.now
-          new_quotes why (sym c.is_outside.ensures ∙ w.if-is_outside.true) are.quotes)
-      | else-is_outside w ↦
-          behind_left net tree H c.args.request.now.user spread quotes quote judge c.args.shares.now
-          new_quotes why (sym c.is_outside.ensures ∙ w.if-is_outside.false)
-          (ap quotes_of w.users-is ∙ c.in-Ok.ensures.quotes)
-    ] in
-    turned_down net tree H c.args.request.now.user spread quotes quote judge c.args.shares.now
-    new_quotes why behind c.in-Err-judged_by.ensures
-
-pub returns-after-is_outside-clause-apart : goal.returns-after-is_outside-clause-apart
-returns-after-is_outside-clause-apart g c =
+    let judge = anew_judges net tree H u spread quotes quote made.quote c.revision.result
+    c.last_spread_quote.result c.in_default.not-Some c.revision.ensures
+    c.last_spread_quote.ensures.none in
     elim c.if-is_outside.branch [
       | then-is_outside w ↦
-          apart_quoted c.args.request.now.user c.args.users.now c.fresh_spread_quote.new.users
-          c.if-is_outside.users (Bounds c.in-Ok.quote) c.in-Ok.ensures.apart
-          (w.users-is ∙ w.set_quote.ensures)
-      | else-is_outside w ↦
-          apart_then c.args.request.now.user c.args.users.now c.fresh_spread_quote.new.users
-          c.if-is_outside.users c.in-Ok.ensures.apart
-          (apart_same c.fresh_spread_quote.new.users c.if-is_outside.users
-          c.args.request.now.user (ap assets_of w.users-is))
+          (let are = quote_was_set g.A.Engine.stands_for net tree H members mid new_members u
+          (Bounds quote)
+          made.names made.quotes made.held c.requires.user (w.users-is ∙ w.set_quote.ensures) in
+          record {
+            prices = made.prices;
+            held = are.held;
+            names = are.names;
+            apart = apart_quoted u members mid new_members (Bounds quote) made.apart (w.users-is
+                ∙ w.set_quote.ensures);
+            judged = turned_down net tree H u spread quotes quote judge c.args.shares.now
+                (quotes_of new_members) why
+                (behind_set net tree H u spread quotes quote judge c.args.shares.now
+                (quotes_of new_members) why
+                (sym c.is_outside.ensures ∙ w.if-is_outside.true) are.quotes)
+                c.in-Err-judged_by.ensures;
+          })
+      | else-is_outside w ↦ record {
+        prices = made.prices;
+        held = subst (λ (users : List (Member g.row.A.Denot g.row.A-Plan.Denot)). AreHeld
+            g.A.Engine.stands_for net tree H users) (sym w.users-is) made.held;
+        names = ap names_of w.users-is ∙ made.names;
+        apart = apart_then u members mid new_members made.apart
+            (apart_same mid new_members u (ap assets_of w.users-is));
+        judged = turned_down net tree H u spread quotes quote judge c.args.shares.now
+            (quotes_of new_members) why
+            (behind_left net tree H u spread quotes quote judge c.args.shares.now
+            (quotes_of new_members) why
+            (sym c.is_outside.ensures ∙ w.if-is_outside.false) (ap quotes_of w.users-is
+            ∙ made.quotes)) c.in-Err-judged_by.ensures;
+      }
     ]
