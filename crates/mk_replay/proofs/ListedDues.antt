@@ -2,6 +2,7 @@
 use Rattle.std.proofs.Common.{◌≡◌, ◌≢◌, ℕ, ◌+◌, ◌*◌, ◌<◌, ◌≤◌, Bool, true, false, cond}
 use Rattle.std.proofs.Common.{◌⊎◌, inl, inr, eqb, List, [], ◌∷◌, ◌++◌, map, length, get_or, set}
 use Rattle.std.proofs.Common.{refl, sym, ap, subst, ◌∙◌, arith, eq-eqb, ne_eqb, length-append}
+use Rattle.std.proofs.Common.{sum_by}
 use Rattle.std.specs.List.{AllByRecursion, count_by}
 use Rattle.std.proofs.Math.Path.{fun_ext}
 use Rattle.std.proofs.Math.Nat.{mul-le-mul_left}
@@ -9,7 +10,7 @@ use Rattle.std.proofs.lemmas.Bool.{cases_eq}
 use Rattle.std.proofs.lemmas.List.{ext_get_or, get_or-set_same, get_or-set_other, length-set}
 use Rattle.std.proofs.lemmas.List.Elements.{filter_map-append}
 use Rattle.std.proofs.lemmas.List.FromFn.{length-map-range_with_len, get_or-map-range_with_len}
-use Rattle.std.proofs.lemmas.List.Sums.{sum_by-append, sum_by-cons}
+use Rattle.std.proofs.lemmas.List.Sums.{sum_by-cons}
 use Rattle.mk_net.specs.Bounds.{max_transfers, number_limit}
 use Rattle.mk_states.specs.States.{numbers_below}
 use Rattle.mk_states.specs.Ratios.{ratio_at}
@@ -25,8 +26,8 @@ use Rattle.mk_cash.proofs.Dues.{dues_grow}
 use Rattle.mk_cash.proofs.Payments.{kept_length, ratio_below, bits_at_most}
 use Rattle.mk_rules.specs.Bounded.{FitsTransfer}
 use Rattle.mk_replay.specs.ByRule.{CanBePaid}
-use Rattle.mk_replay.proofs.Replayed.{all_back}
-use Rattle.mk_replay.specs.inner.Dues.{dues_of, due_at, dues_after, CanTakeDue}
+use Rattle.mk_replay.proofs.Replayed.{all_back, sum_through}
+use Rattle.mk_replay.specs.inner.Dues.{dues_of, due_at, dues_after, CanMove, CanTakeDue}
 
 -- ---- one user's place in a list
 
@@ -148,56 +149,45 @@ module _ (front rest : List Entry) (s : List ℕ) where
   fits_here e can =
       (all_back (FitsTransfer (count e)) front (e ∷ rest) can.transfers_fit).0
 
-  -- all that is paid in is no less than what was paid in before and what this entry pays in
-  paid_in : (e : Entry) (u : ℕ) → CanBePaid (whole e) s
-      → deposited front u + bits_in u e ≤ 1000 * max_transfers
-  paid_in e u can =
-      let most = bits_at_most u (whole e) can.within.few_bits in
+  -- what an entry moves, with what was moved before, is within what all transfers can
+  moved_here : (f : Entry → ℕ) (e : Entry) → CanBePaid (whole e) s
+      → sum_by f (whole e) ≤ 1000 * count_by is_transfer (whole e)
+      → sum_by f front + f e ≤ 1000 * max_transfers
+  moved_here f e can most =
       let few : 1000 * count_by is_transfer (whole e) ≤ 1000 * max_transfers =
       mul-le-mul_left 1000 can.within.few_transfers in
-      omega (
-        arith,
-        most,
-        few,
-        sum_by-append (bits_in u) front (e ∷ rest),
-        sum_by-cons (bits_in u) e rest,
-      )
+      omega (arith, sum_through f front rest e (1000 * count_by is_transfer (whole e)) most, few)
+
+  paid_in : (e : Entry) (u : ℕ) → CanBePaid (whole e) s
+      → deposited front u + bits_in u e ≤ 1000 * max_transfers
+  paid_in e u can = moved_here (bits_in u) e can (bits_at_most u (whole e) can.within.few_bits)
 
   taken_out : (e : Entry) (u : ℕ) → CanBePaid (whole e) s
       → withdrawn front u + bits_out u e ≤ 1000 * max_transfers
   taken_out e u can =
-      let most = bits_out_at_most (count e) u (whole e) can.transfers_fit in
-      let few : 1000 * count_by is_transfer (whole e) ≤ 1000 * max_transfers =
-      mul-le-mul_left 1000 can.within.few_transfers in
-      omega (
-        arith,
-        most,
-        few,
-        sum_by-append (bits_out u) front (e ∷ rest),
-        sum_by-cons (bits_out u) e rest,
-      )
+      moved_here (bits_out u) e can (bits_out_at_most (count e) u (whole e) can.transfers_fit)
+
+  -- so its user can move them
+  can_move : (n u bits own before due : ℕ) → u < n → own ≡ bits → due ≡ before
+      → before + own ≤ 1000 * max_transfers → CanMove bits (length (dues_of n s front)) u due
+  can_move n u bits own before due within same there room = record {
+    user = omega (arith, within, dues_count n s front);
+    room = omega (arith, room, same, there);
+  }
 
   pub can_take_here : (e : Entry) → CanBePaid (whole e) s
       → CanTakeDue s e (dues_of (count e) s front)
   can_take_here (Join name) can = tt
   can_take_here (Deposit u bits) can =
-      let fits = fits_here (Deposit u bits) can in
-      let n = count (Deposit u bits) in
-      let same : bits_in u (Deposit u bits) ≡ bits = rw (eq-eqb u u refl) refl in
-      let there = ap (λ (d : DueOf). d.deposited) (due_there n s front u fits.user) in
-      record {
-        user = omega (arith, fits.user, dues_count n s front);
-        room = omega (arith, paid_in (Deposit u bits) u can, same, there);
-      }
+      let e = Deposit u bits in let within = (fits_here (Deposit u bits) can).user in
+      can_move (count e) u bits (bits_in u e) (deposited front u) _ within
+      (rw (eq-eqb u u refl) refl)
+      (ap (λ (d : DueOf). d.deposited) (due_there (count e) s front u within)) (paid_in e u can)
   can_take_here (Withdraw u bits) can =
-      let fits = fits_here (Withdraw u bits) can in
-      let n = count (Withdraw u bits) in
-      let same : bits_out u (Withdraw u bits) ≡ bits = rw (eq-eqb u u refl) refl in
-      let there = ap (λ (d : DueOf). d.withdrawn) (due_there n s front u fits.user) in
-      record {
-        user = omega (arith, fits.user, dues_count n s front);
-        room = omega (arith, taken_out (Withdraw u bits) u can, same, there);
-      }
+      let e = Withdraw u bits in let within = (fits_here (Withdraw u bits) can).user in
+      can_move (count e) u bits (bits_out u e) (withdrawn front u) _ within
+      (rw (eq-eqb u u refl) refl)
+      (ap (λ (d : DueOf). d.withdrawn) (due_there (count e) s front u within)) (taken_out e u can)
   can_take_here (Trade u ratio) can =
       let e = Trade u ratio in
       let n = count e in

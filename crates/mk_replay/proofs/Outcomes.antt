@@ -80,10 +80,15 @@ module _ (network : List Variable) (H : List Entry) (known : List Pair) (variabl
       ((here.0).one_each ∙ as_many network ∙ are.one_each)
       (subst (λ (ps : List Pair). holds ps is_outcome.state ≡ true) are.resolved (here.1)) are.all
 
-  pub outcome_one : (s : List ℕ) → s ≡ map (value_given known) (numbers_below variables)
-      → possible_states network H always ≡ s ∷ []
-  outcome_one s e = is_outcome.one_state ∙ ap (λ t. t ∷ []) (same ∙ sym e)
+  -- where values were given to as many variables as there are, they are its state
+  module _ (s : List ℕ) (given : ℕ) (all : given ≡ variables)
+      (are_given : s ≡ map (value_given known) (numbers_below given)) where
+    its_state : is_outcome.state ≡ s
+    its_state =
+        same ∙ sym (are_given ∙ ap (λ (n : ℕ). map (value_given known) (numbers_below n)) all)
 
-  pub outcome_state : (s : List ℕ) → s ≡ map (value_given known) (numbers_below variables)
-      → IsState (sizes network) s
-  outcome_state s e = subst (IsState (sizes network)) (same ∙ sym e) (here.0)
+    pub outcome_one : possible_states network H always ≡ s ∷ []
+    outcome_one = is_outcome.one_state ∙ ap (λ t. t ∷ []) its_state
+
+    pub outcome_state : IsState (sizes network) s
+    outcome_state = subst (IsState (sizes network)) its_state (here.0)

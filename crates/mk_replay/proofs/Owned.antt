@@ -2,7 +2,6 @@
 use Rattle.std.proofs.Common.{◌≡◌, ℕ, ◌+◌, ◌≤◌, Bool, true, false, cond, eqb, List, []}
 use Rattle.std.proofs.Common.{◌∷◌, ◌++◌, take, drop, refl, sym, ap, ap₂, subst, ◌∙◌}
 use Rattle.std.proofs.Common.{arith, add-zero, eq-eqb}
-use Rattle.std.proofs.lemmas.List.Sums.{sum_by-append, sum_by-cons}
 use Rattle.mk_net.specs.Network.{Variable}
 use Rattle.mk_exact.specs.History as history
 use Rattle.mk_exact.specs.History.{bits_in, bits_out, deposited, withdrawn}
@@ -15,7 +14,7 @@ use Rattle.mk_assets.specs.declared.assets.Assets.{Assets}
 use Rattle.mk_assets.specs.Holdings.{Holding, Holds, max_bits, opening_holding}
 use Rattle.mk_answers.specs.Open.{holding_of}
 use Rattle.mk_replay.specs.inner.Taking.{HasRoomFor, grown_holding}
-use Rattle.mk_replay.proofs.Replayed.{around}
+use Rattle.mk_replay.proofs.Replayed.{around, sum_through}
 
 abbrev holding : Meaning → ℕ → ℕ → Holding
 holding m ins outs = record { meaning = m; deposited = ins; withdrawn = outs }
@@ -69,15 +68,11 @@ module _ (network : List Variable) (tree : GivenTree) (u : ℕ) where
   room_here front rest (history.Deposit user bits) few_in few_out = λ same.
       let e = history.Deposit user bits in
       let own : bits_in u e ≡ bits = rw (eq-eqb user u same) refl in
-      let all = sum_by-append (bits_in u) front (e ∷ rest) in
-      let one = sum_by-cons (bits_in u) e rest in
-      omega (arith, own, all, one, few_in)
+      omega (arith, own, sum_through (bits_in u) front rest e max_bits few_in)
   room_here front rest (history.Withdraw user bits) few_in few_out = λ same.
       let e = history.Withdraw user bits in
       let own : bits_out u e ≡ bits = rw (eq-eqb user u same) refl in
-      let all = sum_by-append (bits_out u) front (e ∷ rest) in
-      let one = sum_by-cons (bits_out u) e rest in
-      omega (arith, own, all, one, few_out)
+      omega (arith, own, sum_through (bits_out u) front rest e max_bits few_out)
   room_here front rest (history.Trade user ratio) few_in few_out = tt
   room_here front rest (history.Resolve pair) few_in few_out = tt
   room_here front rest (history.Settle payments) few_in few_out = tt

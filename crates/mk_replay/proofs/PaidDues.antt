@@ -49,14 +49,16 @@ module _ (H : List history.Entry) (e : history.Entry) (i : ℕ)
       dues_more (length (users H)) s (take i H) e can_take
       ∙ ap (dues_of (length (users H)) s) (sym next)
 
--- after the last entry all payments are those by rule
-pub paid_off : (b : ℕ) (s : List ℕ) (H : List history.Entry) (i : ℕ) (dues : List DueOf)
-    (paid : List (ℕ × ℕ)) → length H ≤ i → dues ≡ dues_of (length (users H)) s (take i H)
-    → paid ≡ map (due_payment b) dues
+-- after the last entry all payments of what is due are those by rule
+pub paid_off : (b : ℕ) (s : List ℕ) (H : List history.Entry) (i last : ℕ) (dues read : List DueOf)
+    (paid : List (ℕ × ℕ)) → last ≡ length H → last ≤ i
+    → dues ≡ dues_of (length (users H)) s (take i H) → read ≡ dues
+    → paid ≡ map (due_payment b) read
     → paid ≡ map (payment_by_rule H b s) (numbers_below (length (users H)))
-paid_off b s H i dues paid past due is =
+paid_off b s H i last dues read paid all past due same is =
+    let end : length H ≤ i = omega arith in
     is
-    ∙ ap (map (due_payment b)) (due ∙ ap (dues_of (length (users H)) s) (take_all i H past))
+    ∙ ap (map (due_payment b)) (same ∙ due ∙ ap (dues_of (length (users H)) s) (take_all i H end))
     ∙ paid_by_rule (length (users H)) b s H
 
 -- and where this state alone is possible, those of the outcome

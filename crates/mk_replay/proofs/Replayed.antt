@@ -1,10 +1,11 @@
 -- An engine takes a history entry by entry.
 use Rattle.std.proofs.Common.{◌≡◌, ℕ, ◌+◌, ◌<◌, List, [], ◌∷◌, ◌++◌, length, take, drop}
-use Rattle.std.proofs.Common.{true, is_some, refl, sym, ap, subst, ◌∙◌, arith}
+use Rattle.std.proofs.Common.{true, is_some, ◌≤◌, refl, sym, ap, subst, ◌∙◌, arith, sum_by}
 use Rattle.std.proofs.Common.{length-append, append_assoc, eq-eqb}
 use Rattle.std.specs.List.{AllByRecursion}
 use Rattle.std.proofs.lemmas.List.{take-append-drop}
 use Rattle.std.proofs.lemmas.List.Elements.{filter_map-append}
+use Rattle.std.proofs.lemmas.List.Sums.{sum_by-append, sum_by-cons}
 use Rattle.mk_net.specs.declared.words.Pair.{Pair}
 use Rattle.mk_net.specs.Asked.{TradeRatio, ratio_pairs}
 use Rattle.mk_net.specs.Bounds.{max_market_trades}
@@ -29,6 +30,12 @@ pub around : (H : List history.Entry) (e : history.Entry) (i : ℕ)
 around H e i next = sym (take-append-drop (i + 1) H)
     ∙ ap (λ (front : List history.Entry). front ++ drop (i + 1) H) next
     ∙ append_assoc (take i H) (e ∷ []) (drop (i + 1) H)
+
+-- what is summed over all of them is no less than what is summed before one and what it adds
+pub sum_through : (f : history.Entry → ℕ) (front rest : List history.Entry) (e : history.Entry)
+    (most : ℕ) → sum_by f (front ++ e ∷ rest) ≤ most → sum_by f front + f e ≤ most
+sum_through f front rest e most few =
+    let all = sum_by-append f front (e ∷ rest) in let one = sum_by-cons f e rest in omega arith
 
 -- one more entry is taken
 pub take_one : {E : Type 0} (stands_for : E → Meaning → Type 0) (engine : E)

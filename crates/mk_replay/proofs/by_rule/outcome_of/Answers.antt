@@ -1,6 +1,5 @@
-use Rattle.std.proofs.Common.{◌≡◌, ℕ, List, ◌∷◌, ◌++◌, [], map, sym, ap, ap₂, ◌∙◌, arith}
+use Rattle.std.proofs.Common.{ℕ, List, ◌∷◌, ◌++◌, [], sym, ap₂, ◌∙◌, arith}
 use Rattle.std.proofs.lemmas.List.FromFn.{map-range_with_len_more}
-use Rattle.mk_states.specs.States.{numbers_below}
 use Rattle.mk_replay.specs.inner.Dues.{value_given}
 use Rattle.mk_replay.proofs.Outcomes.{outcome_one, outcome_state}
 use Rattle.mk_replay.proofs.by_rule.outcome_of.Goals as goal
@@ -18,14 +17,12 @@ loop-variable-preserved c =
 
 pub returns-clause-outcome : goal.returns-clause-outcome
 returns-clause-outcome c = λ network H net proper are.
-    let end : c.loop-variable.variable ≡ c.args.variables = omega arith in
     outcome_one network H c.args.known.now c.args.variables net proper are
-    c.loop-variable.state.items (c.loop-variable.invariant.given
-    ∙ ap (λ (n : ℕ). map (value_given c.args.known.now) (numbers_below n)) end)
+    c.loop-variable.state.items c.loop-variable.variable (omega arith)
+    c.loop-variable.invariant.given
 
 pub returns-clause-state : goal.returns-clause-state
 returns-clause-state c = λ network H net proper are.
-    let end : c.loop-variable.variable ≡ c.args.variables = omega arith in
     outcome_state network H c.args.known.now c.args.variables net proper are
-    c.loop-variable.state.items (c.loop-variable.invariant.given
-    ∙ ap (λ (n : ℕ). map (value_given c.args.known.now) (numbers_below n)) end)
+    c.loop-variable.state.items c.loop-variable.variable (omega arith)
+    c.loop-variable.invariant.given

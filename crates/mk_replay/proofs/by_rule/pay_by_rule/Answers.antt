@@ -1,6 +1,6 @@
-use Rattle.std.proofs.Common.{◌≡◌, ◌≤◌, List, length, map, take, sym, ap, ◌∙◌, subst, arith}
+use Rattle.std.proofs.Common.{◌≡◌, List, length, take, sym, ap, ◌∙◌, subst, arith}
 use Rattle.mk_exact.specs.History.{users}
-use Rattle.mk_cash.specs.Dues.{DueOf, due_payment}
+use Rattle.mk_cash.specs.Dues.{DueOf}
 use Rattle.mk_history.specs.Entries.{change_of}
 use Rattle.mk_replay.specs.inner.Dues.{dues_after, CanTakeDue}
 use Rattle.mk_replay.proofs.ListedDues.{dues_count}
@@ -35,20 +35,14 @@ pay_dues-requires-clause-room c =
 pub returns-clause-payments : goal.returns-clause-payments
 returns-clause-payments c =
     let H = c.args.history.now.history in
-    let past : length H ≤ c.loop-number.number =
-    omega (arith, c.loop-number-test.false, c.length-number-end.ensures) in
-    paid_off c.args.points_per_bit c.args.state.now H c.loop-number.number _ _ past
-    c.loop-number.invariant.dues
-    (c.pay_dues.ensures.payments
-    ∙ ap (map (due_payment c.args.points_per_bit)) c.as_slice.ensures.value)
+    paid_off c.args.points_per_bit c.args.state.now H c.loop-number.number _ _ _ _
+    c.length-number-end.ensures c.loop-number-test.false c.loop-number.invariant.dues
+    c.as_slice.ensures.value c.pay_dues.ensures.payments
 
 pub returns-clause-by_rule : goal.returns-clause-by_rule
 returns-clause-by_rule c = λ network one.
     let H = c.args.history.now.history in
-    let past : length H ≤ c.loop-number.number =
-    omega (arith, c.loop-number-test.false, c.length-number-end.ensures) in
-    paid_off c.args.points_per_bit c.args.state.now H c.loop-number.number _ _ past
-    c.loop-number.invariant.dues
-    (c.pay_dues.ensures.payments
-    ∙ ap (map (due_payment c.args.points_per_bit)) c.as_slice.ensures.value)
+    paid_off c.args.points_per_bit c.args.state.now H c.loop-number.number _ _ _ _
+    c.length-number-end.ensures c.loop-number-test.false c.loop-number.invariant.dues
+    c.as_slice.ensures.value c.pay_dues.ensures.payments
     ∙ in_outcome network H c.args.points_per_bit c.args.state.now one
