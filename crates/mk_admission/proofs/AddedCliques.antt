@@ -219,7 +219,7 @@ members_few network add others untaken covered named few =
 
 -- ---- the refusals of its clique
 
-pub uncovered_is : (add : AddText) (clique parents : List (List ℕ)) → clique ≡ add.clique.items
+uncovered_is : (add : AddText) (clique parents : List (List ℕ)) → clique ≡ add.clique.items
     → parents ≡ add.parents.items → is_among clique add.variable ≡ true
     → uncovered add ≡ option_map Uncovered (find (λ name. not (is_among clique name)) parents)
 uncovered_is add clique parents e f h =
@@ -227,6 +227,14 @@ uncovered_is add clique parents e f h =
     (find (λ name. not (is_among add.clique.items name)) add.parents.items)))
     (ap (λ names. is_among names add.variable) (sym e) ∙ h)
     ∙ sym (ap₂ (λ names ps. option_map Uncovered (find (λ name. not (is_among names name)) ps)) e f)
+
+-- so the refusal is of what is found among the parents
+pub uncovered_by : (add : AddText) (clique parents : List (List ℕ)) → clique ≡ add.clique.items
+    → parents ≡ add.parents.items → is_among clique add.variable ≡ true
+    → (left : Option (List ℕ)) → find (λ name. not (is_among clique name)) parents ≡ left
+    → option_map Uncovered left ≡ uncovered add
+uncovered_by add clique parents e f h left is =
+    sym (uncovered_is add clique parents e f h ∙ ap (option_map Uncovered) is)
 
 pub uncovered_own : (add : AddText) (clique : List (List ℕ)) → clique ≡ add.clique.items
     → is_among clique add.variable ≡ false → Some (Uncovered add.variable) ≡ uncovered add

@@ -151,12 +151,12 @@ set_next clique k set longer within more so_far x =
         at false e false f = refl
 
     moved : (a a' m r : Bool) → a ≡ a' → ((a || m) || r) ≡ (m || (a' || r))
-    moved true true true r e = refl
-    moved true true false r e = refl
-    moved true false m r e = cc
-    moved false true m r e = cc
-    moved false false true r e = refl
-    moved false false false r e = refl
+    moved a a' m r e = behind a m r ∙ ap (λ (b : Bool). m || (b || r)) e
+      where
+        behind : (a m r : Bool) → ((a || m) || r) ≡ (m || (a || r))
+        behind true true r = refl
+        behind true false r = refl
+        behind false m r = refl
 
 pub set_all : (clique : List ℕ) (k : ℕ) (set : VarSet) → length clique ≤ k
     → IsSetTo clique k set → (x : ℕ) → is_member set x ≡ is_in clique x
