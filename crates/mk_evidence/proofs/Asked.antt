@@ -34,6 +34,7 @@ use Rattle.mk_rules.proofs.Spreadable.{as_many_shares}
 use Rattle.mk_rules.proofs.Spreads.{spread_parts}
 use Rattle.mk_rules.proofs.Unrefused.{none_applies}
 use Rattle.mk_answers.specs.Open.{IsOpen, CanBeSpreadHere}
+use Rattle.mk_answers.specs.Telling.{CanTellPrices}
 use Rattle.mk_answers.proofs.Homes.{condition_is_held}
 use Rattle.mk_record.specs.declared.requests.Request.{Request}
 use Rattle.mk_record.specs.declared.requests.SpreadRequest.{SpreadRequest}
@@ -41,6 +42,7 @@ use Rattle.mk_record.specs.declared.users.Member.{Member}
 use Rattle.mk_record.specs.Journals.{JournalOf}
 use Rattle.mk_record.specs.Members.{names_of, assets_of, quotes_of, with_assets}
 use Rattle.mk_record.specs.Refused.{IsUser, IsSpreadQuestionFor}
+use Rattle.mk_record.proofs.SpreadRefusals.{value_is_held}
 use Rattle.mk_replay.specs.Tills.{TillOf}
 use Rattle.mk_asking.specs.declared.possible.Stopped.{Stopped}
 use Rattle.mk_asking.specs.Keeping.{AreHeld}
@@ -116,6 +118,35 @@ module _ {P A Plan : Type 0} {weights_stand : P → Meaning → Type 0}
   asked_kept {new_prices} {new_members} still asked =
       kept_unquoted weights_stand gains_stand plan_for file prices new_prices rows plan members
       new_members ledger journal payments till kept still asked.names asked.quotes asked.held
+
+  -- where the engine of prices alone was asked
+  pub prices_kept : {new_prices : P}
+      → ((m : Meaning) → weights_stand prices m → weights_stand new_prices m)
+      → IsKept weights_stand gains_stand plan_for file new_prices rows plan members ledger journal
+      payments till
+  prices_kept still =
+      asked_kept still (record { held = kept.held; names = refl; quotes = refl })
+
+  -- with a file that is the same but for the proofs that it carries
+  pub filed_kept : {other : MarketFile} → other ≡ file
+      → IsKept weights_stand gains_stand plan_for other prices rows plan members ledger journal
+      payments till
+  filed_kept same = subst (λ (f : MarketFile). IsKept weights_stand gains_stand plan_for f prices
+      rows plan members ledger journal payments till) (sym same) kept
+
+  -- the prices of each value can be asked for in the home of the first
+  pub can_tell_prices : (at : ℕ) (spread : SpreadAsked)
+      → CanBeSpreadHere file.net file.tree journal.history spread
+      → home file.tree (pairs_asked (asked_of spread 0)) ≡ Some at
+      → CanTellPrices weights_stand prices file.net at spread
+  can_tell_prices at spread answered at_home = record {
+    tree = file.tree;
+    history = journal.history;
+    stands = kept.prices_stand;
+    is_open = open_now;
+    answered = answered;
+    held = λ value. value_is_held file.tree at spread value at_home;
+  }
 
   -- what a request asks
   pub can_find_both : (name : List ℕ) (q : QuestionText) (request : Request)

@@ -1,17 +1,15 @@
 -- What stops a spread, or does not, by bounds that are found anew for an auditor.
 use Rattle.std.specs.Prelude.{◌≡◌, ℕ, ◌+◌, ◌<◌, ◌≤◌, List, [], ◌∷◌, length, slice_index, Option}
 use Rattle.std.specs.Prelude.{Some, None}
-use Rattle.std.proofs.Common.{sym, ap, ap₂, ◌∙◌, subst, arith}
+use Rattle.std.proofs.Common.{sym, ap, ap₂, ◌∙◌, arith}
 use Rattle.mk_net.specs.declared.words.PairText.{PairText}
 use Rattle.mk_net.specs.Firsts.{first_of}
 use Rattle.mk_net.specs.Network.{Variable, sizes}
 use Rattle.mk_exact.specs.History.{Entry, revision}
-use Rattle.mk_exact.specs.Weight.{IsSmall}
-use Rattle.mk_spread.specs.Markets.{AreValueSides, values_left}
+use Rattle.mk_spread.specs.Markets.{values_left}
 use Rattle.mk_spread.specs.Spreads.{SpreadAsked}
 use Rattle.mk_spread.proofs.Suits.{is_impossible}
 use Rattle.mk_tree.specs.Given.{GivenTree}
-use Rattle.mk_quote.specs.declared.side.SideBounds.{SideBounds}
 use Rattle.mk_quote.specs.declared.spread_quote.SpreadQuote.{SpreadQuote}
 use Rattle.mk_quote.specs.declared.values.SpreadBounds.{SpreadBounds}
 use Rattle.mk_quote.specs.Spreads.{user_of, question_of, revision_of, sides_of}
@@ -19,13 +17,14 @@ use Rattle.mk_quote.specs.Values.{sides_in, has_no_side}
 use Rattle.mk_reply.specs.declared.refusal.Refusal.{Refusal}
 use Rattle.mk_rules.specs.Refusals.{spread_named, impossible_together, sure_value}
 use Rattle.mk_rules.specs.Refusals.{impossible_share, missing_share}
-use Rattle.mk_answers.specs.Open.{IsOpen, CanBeSpreadHere, AreSideBoundsFor}
+use Rattle.mk_answers.specs.Open.{IsOpen, CanBeSpreadHere}
 use Rattle.mk_asking.specs.declared.possible.Stopped.{Stopped}
 use Rattle.mk_asking.specs.declared.possible.Stopped.TheVariants as stopped
 use Rattle.mk_evidence.specs.inner.Finding.{AreEachFound, HasQuote, ArePlaced, IsStoppedAnew}
 use Rattle.mk_evidence.specs.inner.Finding.{IsDecidedAnew}
 use Rattle.mk_asking.specs.Quoting.{IsSpreadQuoteOf}
 use Rattle.mk_asking.specs.Stopped.{IsRefusedFor, MayStop}
+use Rattle.mk_asking.proofs.SpreadQuotes.{made_of_bounds}
 use Rattle.mk_asking.proofs.StoppedSpreads.{decided_first, impossible_first, missing_first}
 use Rattle.mk_asking.proofs.StoppedSpreads.{none_first, first_below}
 use Rattle.mk_asking.proofs.TogetherSpreads.{together_left, not_sure}
@@ -37,22 +36,8 @@ module _ (network : List Variable) (tree : GivenTree) (H : List Entry) (u : ℕ)
       → AreEachFound most network H u spread bounds → (quote : SpreadQuote) → user_of quote ≡ u
       → question_of quote ≡ spread → revision_of quote ≡ revision H
       → sides_of quote ≡ sides_in bounds → IsSpreadQuoteOf network tree H u spread quote
-  quote_anew answered most bounds found quote its question present same = record {
-    same_user = its;
-    question = question;
-    at_present = present;
-    current = record {
-      answered = subst (λ (s : SpreadAsked). CanBeSpreadHere network tree H s) (sym question)
-          answered;
-      two_left = subst (λ (s : SpreadAsked). 2 ≤ length (values_left network H s)) (sym question)
-          found.two_left;
-      bounds = λ sides are.
-          subst (λ (values : List (Option SideBounds)). AreSideBoundsFor values
-          (IsSmall network H) sides) (sym same)
-          (found.enclosed sides (subst (λ (s : SpreadAsked). AreValueSides network H u s sides)
-          question are));
-    };
-  }
+  quote_anew answered most bounds found quote =
+      made_of_bounds network tree H u spread answered bounds (found.two_left, found.enclosed) quote
 
   -- what may stop it
   pub anew_may_stop : (Xs : List ℕ) → length Xs ≡ slice_index (sizes network) spread.variable

@@ -6,11 +6,11 @@ use Rattle.mk_quote.specs.Questions.{spread_in}
 use Rattle.mk_rules.specs.Refusals.{refusals_by_record}
 use Rattle.mk_rules.proofs.Unrefused.{none_applies}
 use Rattle.mk_answers.specs.Evidence.{grade_together}
-use Rattle.mk_record.proofs.SpreadRefusals.{value_is_held}
 use Rattle.mk_market.proofs.Spreads.{question_for}
 use Rattle.mk_evidence.specs.Grades.{evidence_grade}
 use Rattle.mk_evidence.proofs.Grading.{weights_within}
-use Rattle.mk_evidence.proofs.Asked.{open_now, refused_by_record, can_refuse_under, refused_under}
+use Rattle.mk_evidence.proofs.Asked.{open_now, refused_by_record, can_refuse_under}
+use Rattle.mk_evidence.proofs.Asked.{can_tell_prices, refused_under}
 use Rattle.mk_evidence.proofs.Evidenced.{prices_found, prices_stopped}
 use Rattle.mk_evidence.proofs.evidence.prices_evidence.Goals as goal
 
@@ -22,16 +22,9 @@ returns-in_err-asked-clause-evidence g c = refused_by_record c.market.invariant 
 
 pub value_price_bounds_of-requires : goal.value_price_bounds_of-requires
 value_price_bounds_of-requires g c =
-    let i = c.market.inside in let found = c.in_ok-asked in
-    record {
-      tree = i.file.tree;
-      history = i.journal.history;
-      stands = c.market.invariant.prices_stand;
-      is_open = open_now c.market.invariant;
-      answered = found.ensures.question.answered;
-      held = λ value. value_is_held i.file.tree found.home (spread_in found.asked) value
-          found.ensures.home;
-    }
+    let found = c.in_ok-asked in
+    can_tell_prices c.market.invariant found.home (spread_in found.asked)
+    found.ensures.question.answered found.ensures.home
 
 pub refuse_condition-requires : goal.refuse_condition-requires
 refuse_condition-requires g c =

@@ -1,4 +1,4 @@
-use Rattle.mk_tree.proofs.Held.{home_is_held}
+use Rattle.mk_asking.proofs.Asking.{can_bound}
 use Rattle.mk_asking.proofs.Learnt.{still_in_range}
 use Rattle.mk_beliefs.specs.Meanings.{weights_of, gains_of}
 use Rattle.mk_file.specs.MarketOf.{market_of}
@@ -15,16 +15,8 @@ assets-requires g c = still_in_range c.args.users.now c.learn.new.users c.args.r
 pub bounds_of-sides-requires : goal.bounds_of-sides-requires
 bounds_of-sides-requires g c =
     let a = c.requires in
-    record {
-      tree = c.args.file.now.tree;
-      history = c.args.journal.now.history;
-      user = c.args.request.now.user;
-      stands = a.in_use.weights;
-      owns = c.learn.ensures.learnt c.assets.result.now c.assets.ensures.value;
-      is_open = a.in_use.is_open;
-      answered = a.answered;
-      held = home_is_held c.args.file.now.tree c.args.request.now.home _ a.at_home;
-    }
+    can_bound g.P.Engine.stands_for c.args.request.now.user a.in_use.is_open a.in_use.weights
+    (c.learn.ensures.learnt c.assets.result.now c.assets.ensures.value) a.answered a.at_home
 
 pub returns-clause-users : goal.returns-clause-users
 returns-clause-users g c = learnt_asked c.learn.new.users c.args.request.now.user

@@ -1,7 +1,8 @@
 use Rattle.std.proofs.Common.{sym}
 use Rattle.mk_command.specs.declared.command.Command.TheVariants.{Bounds}
-use Rattle.mk_market.proofs.Refiled.{refiled}
-use Rattle.mk_evidence.proofs.Asked.{asked_kept, asked_only, can_find_each, refused_by_record}
+use Rattle.mk_market.proofs.Refiled.{same_file}
+use Rattle.mk_evidence.proofs.Asked.{asked_kept, asked_only, can_find_each, filed_kept}
+use Rattle.mk_evidence.proofs.Asked.{refused_by_record}
 use Rattle.mk_evidence.proofs.Asked.{bounds_can_tell, bounds_told}
 use Rattle.mk_evidence.proofs.evidence_of_spreads.bounds_evidence.Goals as goal
 
@@ -28,12 +29,9 @@ told-requires g c =
 
 pub invariant_of-market : goal.invariant_of-market
 invariant_of-market g c =
-    refiled _ _ _ _ _ _ _ _ _ _ _ _ g.P.Engine.stands_for g.A.Engine.stands_for g.A.Engine.plan_for
-    _ _ _ _
-    _ _ _ _
-    (asked_kept c.market.invariant
+    filed_kept (asked_kept c.market.invariant
     (λ m stands. c.told.ensures.prices m (c.spread_bounds-found.ensures.prices m stands))
-    c.spread_bounds-found.ensures.users)
+    c.spread_bounds-found.ensures.users) (same_file _ _ _ _ _ _ _ _ _ _ _ _)
 
 pub returns-clause-same : goal.returns-clause-same
 returns-clause-same g c =

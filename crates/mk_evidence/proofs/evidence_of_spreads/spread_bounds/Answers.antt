@@ -1,5 +1,5 @@
 use Rattle.mk_quote.specs.Questions.{spread_in}
-use Rattle.mk_record.proofs.SpreadRefusals.{value_is_held}
+use Rattle.mk_asking.proofs.Asking.{can_bound_spread}
 use Rattle.mk_asking.proofs.Learnt.{still_in_range}
 use Rattle.mk_beliefs.specs.Meanings.{weights_of, gains_of}
 use Rattle.mk_file.specs.MarketOf.{market_of}
@@ -16,17 +16,8 @@ assets-requires g c = still_in_range c.args.users.now c.learn.new.users c.args.r
 pub spread_bounds_of-sides-requires : goal.spread_bounds_of-sides-requires
 spread_bounds_of-sides-requires g c =
     let of = c.requires.users in
-    record {
-      tree = c.args.file.now.tree;
-      history = c.args.journal.now.history;
-      user = c.args.request.now.user;
-      stands = c.requires.weights;
-      owns = c.learn.ensures.learnt c.assets.result.now c.assets.ensures.value;
-      is_open = of.is_open;
-      answered = of.answered;
-      held = λ value. value_is_held c.args.file.now.tree c.args.request.now.home
-          (spread_in c.args.request.now.question) value of.at_home;
-    }
+    can_bound_spread g.P.Engine.stands_for c.args.request.now.user of.is_open c.requires.weights
+    (c.learn.ensures.learnt c.assets.result.now c.assets.ensures.value) of.answered of.at_home
 
 pub returns-clause-users : goal.returns-clause-users
 returns-clause-users g c = learnt_asked c.learn.new.users c.args.request.now.user

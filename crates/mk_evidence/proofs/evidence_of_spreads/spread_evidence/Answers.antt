@@ -2,8 +2,9 @@ use Rattle.std.proofs.Common.{◌≡◌, ℕ, List, length, slice_index, sym, su
 use Rattle.mk_net.specs.Network.{sizes}
 use Rattle.mk_command.specs.declared.command.Command.TheVariants.{Spread}
 use Rattle.mk_quote.specs.Questions.{spread_in}
-use Rattle.mk_market.proofs.Refiled.{refiled}
-use Rattle.mk_evidence.proofs.Asked.{asked_kept, asked_only, can_find_each, refused_by_record}
+use Rattle.mk_market.proofs.Refiled.{same_file}
+use Rattle.mk_evidence.proofs.Asked.{asked_kept, asked_only, can_find_each, filed_kept}
+use Rattle.mk_evidence.proofs.Asked.{refused_by_record}
 use Rattle.mk_evidence.proofs.Asked.{one_each, spread_can_tell, spread_told}
 use Rattle.mk_evidence.proofs.evidence_of_spreads.spread_evidence.Goals as goal
 
@@ -42,12 +43,9 @@ told-requires g c =
 
 pub invariant_of-market : goal.invariant_of-market
 invariant_of-market g c =
-    refiled _ _ _ _ _ _ _ _ _ _ _ _ g.P.Engine.stands_for g.A.Engine.stands_for g.A.Engine.plan_for
-    _ _ _ _
-    _ _ _ _
-    (asked_kept c.market.invariant
+    filed_kept (asked_kept c.market.invariant
     (λ m stands. c.told.ensures.prices m (c.placed_bounds-found.ensures.prices m stands))
-    c.placed_bounds-found.ensures.users)
+    c.placed_bounds-found.ensures.users) (same_file _ _ _ _ _ _ _ _ _ _ _ _)
 
 pub returns-clause-same : goal.returns-clause-same
 returns-clause-same g c =

@@ -1,5 +1,6 @@
-use Rattle.mk_market.proofs.Refiled.{refiled}
-use Rattle.mk_market.proofs.Resolved.{has_home, can_ask, unrefused_where, never_refused, asked_kept}
+use Rattle.mk_market.proofs.Refiled.{same_file}
+use Rattle.mk_market.proofs.Resolved.{has_home, can_ask, unrefused_where, never_refused}
+use Rattle.mk_evidence.proofs.Asked.{filed_kept, prices_kept}
 use Rattle.mk_evidence.proofs.refused.refused_resolution.Goals as goal
 
 pub home_of-home-requires : goal.home_of-home-requires
@@ -14,22 +15,12 @@ can_come-requires g c = can_ask g.P.Engine.stands_for g.A.Engine.stands_for g.A.
     c.home_of-home.ensures
 
 pub invariant_of-market : goal.invariant_of-market
-invariant_of-market g c =
-    refiled _ _ _ _ _ _ _ _ _ _ _ _ g.P.Engine.stands_for g.A.Engine.stands_for g.A.Engine.plan_for
-    _ _ _ _
-    _ _ _ _
-    (asked_kept g.P.Engine.stands_for g.A.Engine.stands_for g.A.Engine.plan_for _ _ _ _ _ _ _ _ _
-    c.market.invariant c.args.words.now c.in_ok-pair.pair c.in_ok-pair.ensures.named
-    c.in_ok-pair.ensures.pair c.can_come.new.prices c.can_come.ensures.kept)
+invariant_of-market g c = filed_kept (prices_kept c.market.invariant c.can_come.ensures.kept)
+    (same_file _ _ _ _ _ _ _ _ _ _ _ _)
 
 pub invariant_of-market-2 : goal.invariant_of-market-2
-invariant_of-market-2 g c =
-    refiled _ _ _ _ _ _ _ _ _ _ _ _ g.P.Engine.stands_for g.A.Engine.stands_for g.A.Engine.plan_for
-    _ _ _ _
-    _ _ _ _
-    (asked_kept g.P.Engine.stands_for g.A.Engine.stands_for g.A.Engine.plan_for _ _ _ _ _ _ _ _ _
-    c.market.invariant c.args.words.now c.in_ok-pair.pair c.in_ok-pair.ensures.named
-    c.in_ok-pair.ensures.pair c.can_come.new.prices c.can_come.ensures.kept)
+invariant_of-market-2 g c = filed_kept (prices_kept c.market.invariant c.can_come.ensures.kept)
+    (same_file _ _ _ _ _ _ _ _ _ _ _ _)
 
 pub returns-then-not-can_come-clause-refusal : goal.returns-then-not-can_come-clause-refusal
 returns-then-not-can_come-clause-refusal g c =
