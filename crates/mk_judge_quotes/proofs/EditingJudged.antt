@@ -21,7 +21,7 @@ use Rattle.mk_reply.specs.declared.reply.Reply.{Reply}
 use Rattle.mk_reply.specs.declared.reply.Reply.TheVariants as reply
 use Rattle.mk_rules.specs.Refusals.{user_number}
 use Rattle.mk_rules.specs.Quotes.{Interval}
-use Rattle.mk_rules.specs.Answers.{IsTrade, IsJudged, IsJudgedAfresh, IsLimits}
+use Rattle.mk_rules.specs.Answers.{IsTrade, IsBeyond, IsBeyondRight, IsJudged, IsJudgedAfresh, IsLimits}
 use Rattle.mk_judge.specs.declared.judged.Judged.{Judged}
 use Rattle.mk_judge.specs.declared.judged.Judged.TheVariants.{Allowed, Wrong, Unclear}
 use Rattle.mk_judge.specs.Judged.{Judges, both}
@@ -35,7 +35,7 @@ use Rattle.mk_judge_quotes.specs.Small.{TellsSmall}
 use Rattle.mk_judge_quotes.specs.Editing.{AreEditBounds, AreLimitsLeftOpen, IsEditLeftOpen}
 use Rattle.mk_judge_quotes.specs.inner.Editing.{IsTradeLeftOpen}
 use Rattle.mk_judge_quotes.specs.Told.{beyond_told}
-use Rattle.mk_judge_quotes.proofs.Verdicts.{judges_by}
+use Rattle.mk_judge_quotes.proofs.Verdicts.{judges_by, judges_inside, judges_beyond, judges_alone}
 use Rattle.mk_judge_quotes.proofs.Nearer.{grade_room}
 use Rattle.mk_judge_quotes.proofs.EditingNear.{units_open, limits_open}
 
@@ -205,30 +205,29 @@ module _ (market : Market) (H : List Entry) (name : List ℕ) (q : QuestionText)
   pub inside_judged : (X : ℕ) (limits : Interval) (told : Reply) (j : Judged) → Inside limits X
       → Judges j (IsTrade market.network H (user_number H name) its.asked X told) (IsTradeLeftOpen market H (user_number H name) its.asked X told)
       → Judges j (IsJudged market.network H (user_number H name) its.asked X limits told) (IsTradeLeftOpen market H (user_number H name) its.asked X told)
-  inside_judged X limits told j inside judged = judges_as j _ _ _ _ (λ trade. inl (inside, trade)) from (λ o. o) judged
-    where
-      from : IsJudged market.network H (user_number H name) its.asked X limits told → IsTrade market.network H (user_number H name) its.asked X told
-      from (inl trade) = trade.1
-      from (inr beyond) = absurd (beyond.outside inside)
+  inside_judged X limits told j = judges_inside j (Inside limits X)
+      (IsTrade market.network H (user_number H name) its.asked X told) (IsBeyond limits X told)
+      (IsTradeLeftOpen market H (user_number H name) its.asked X told) (λ beyond. beyond.outside)
 
   -- outside of them
   pub outside_judged : (X : ℕ) (limits : Interval) (told : Reply) (j : Judged) → (Inside limits X → ⊥) → Judges j (told ≡ reply.Refused (Beyond limits)) ⊥
       → Judges j (IsJudged market.network H (user_number H name) its.asked X limits told) (IsTradeLeftOpen market H (user_number H name) its.asked X told)
-  outside_judged X limits told j outside judged = judges_as j _ _ _ _ (λ e. inr (record { outside = outside; printed = e })) from (λ never. absurd never) judged
-    where
-      from : IsJudged market.network H (user_number H name) its.asked X limits told → told ≡ reply.Refused (Beyond limits)
-      from (inl trade) = absurd (outside trade.0)
-      from (inr beyond) = beyond.printed
+  outside_judged X limits told j outside = judges_beyond j (Inside limits X)
+      (IsTrade market.network H (user_number H name) its.asked X told) (IsBeyond limits X told)
+      (told ≡ reply.Refused (Beyond limits))
+      (IsTradeLeftOpen market H (user_number H name) its.asked X told) outside
+      (λ e. record { outside = outside; printed = e }) (λ beyond. beyond.printed)
 
   -- without limits of the present revision: a reply that is no refusal by limits
   pub afresh_judged : (X : ℕ) (told : Reply) (j : Judged) → beyond_told told ≡ None
       → Judges j (IsTrade market.network H (user_number H name) its.asked X told) (IsTradeLeftOpen market H (user_number H name) its.asked X told)
       → Judges j (IsJudgedAfresh market.network H (user_number H name) its.asked X told) (IsTradeLeftOpen market H (user_number H name) its.asked X told)
-  afresh_judged X told j none judged = judges_as j _ _ _ _ (λ trade. inl trade) from (λ o. o) judged
-    where
-      from : IsJudgedAfresh market.network H (user_number H name) its.asked X told → IsTrade market.network H (user_number H name) its.asked X told
-      from (inl trade) = trade
-      from (inr refused) = absurd (let e : Some refused.limits ≡ None = sym (ap beyond_told refused.beyond.printed) ∙ none in cc)
+  afresh_judged X told j none = judges_alone j
+      (IsTrade market.network H (user_number H name) its.asked X told)
+      (IsBeyondRight market.network H (user_number H name) its.asked X told)
+      (IsTradeLeftOpen market H (user_number H name) its.asked X told)
+      (λ refused. let e : Some refused.limits ≡ None = sym (ap beyond_told refused.beyond.printed)
+      ∙ none in cc)
 
   -- and one that is such a refusal
   pub beyond_inside : (X : ℕ) (limits : Interval) (told : Reply) → told ≡ reply.Refused (Beyond limits) → Inside limits X

@@ -17,7 +17,7 @@ use Rattle.mk_reply.specs.declared.reply.Reply.{Reply}
 use Rattle.mk_reply.specs.declared.reply.Reply.TheVariants as reply
 use Rattle.mk_reply.specs.Refusals.{given_in}
 use Rattle.mk_rules.specs.Refusals.{user_number}
-use Rattle.mk_rules.specs.Answers.{IsBounds, IsSpreadTrade, IsSpreadJudged, IsSpreadJudgedAfresh}
+use Rattle.mk_rules.specs.Answers.{IsBounds, IsOutside, IsOutsideRight, IsSpreadTrade, IsSpreadJudged, IsSpreadJudgedAfresh}
 use Rattle.mk_judge.specs.declared.judged.Judged.{Judged}
 use Rattle.mk_judge.specs.declared.judged.Judged.TheVariants.{Allowed, Wrong, Unclear}
 use Rattle.mk_judge.specs.Judged.{Judges}
@@ -27,7 +27,7 @@ use Rattle.mk_judge_quotes.specs.Clear.{AreFactorsOpen, AreBoundsOpen}
 use Rattle.mk_judge_quotes.specs.Spreading.{AreEachBounds, AreBoundsLeftOpen, IsSpreadLeftOpen}
 use Rattle.mk_judge_quotes.specs.inner.Spreading.{IsSpreadTradeLeftOpen, IsSameBox, SaysIntervals}
 use Rattle.mk_judge_quotes.specs.Told.{outside_told}
-use Rattle.mk_judge_quotes.proofs.Verdicts.{judges_by}
+use Rattle.mk_judge_quotes.proofs.Verdicts.{judges_by, judges_inside, judges_beyond, judges_alone}
 use Rattle.mk_judge_quotes.proofs.EditingJudged.{not_told, fair_for}
 use Rattle.mk_judge_quotes.proofs.SpreadingNear.{each_side, wanted_open, intervals_open}
 use Rattle.mk_judge_quotes.proofs.SpreadingNear.{factors_open}
@@ -140,32 +140,34 @@ module _ (market : Market) (H : List Entry) (name v : List ℕ) (condition : Arr
   pub within_judged : (Xs : List ℕ) (intervals : Intervals) (told : Reply) (j : Judged) → InsideEach intervals Xs
       → Judges j (IsSpreadTrade market.network H (user_number H name) its.spread Xs told) (IsSpreadTradeLeftOpen market H (user_number H name) its.spread Xs told)
       → Judges j (IsSpreadJudged market.network H (user_number H name) its.spread Xs intervals told) (IsSpreadTradeLeftOpen market H (user_number H name) its.spread Xs told)
-  within_judged Xs intervals told j inside judged = judges_as j _ _ _ _ (λ trade. inl (inside, trade)) from (λ o. o) judged
-    where
-      from : IsSpreadJudged market.network H (user_number H name) its.spread Xs intervals told → IsSpreadTrade market.network H (user_number H name) its.spread Xs told
-      from (inl trade) = trade.1
-      from (inr outside) = absurd (outside.outside inside)
+  within_judged Xs intervals told j = judges_inside j (InsideEach intervals Xs)
+      (IsSpreadTrade market.network H (user_number H name) its.spread Xs told)
+      (IsOutside intervals Xs told)
+      (IsSpreadTradeLeftOpen market H (user_number H name) its.spread Xs told)
+      (λ outside. outside.outside)
 
   -- outside of them: a refusal by these bounds alone
   pub beyond_judged : (Xs : List ℕ) (intervals : Intervals) (told : Reply) (j : Judged) → (InsideEach intervals Xs → ⊥)
       → Judges j (IsSameBox intervals told) ⊥
       → Judges j (IsSpreadJudged market.network H (user_number H name) its.spread Xs intervals told) (IsSpreadTradeLeftOpen market H (user_number H name) its.spread Xs told)
-  beyond_judged Xs intervals told j out judged = judges_as j _ _ _ _ (λ same. inr (record { outside = out; box = same.0; given = same.1; printed = same.2 })) from (λ never. absurd never) judged
-    where
-      from : IsSpreadJudged market.network H (user_number H name) its.spread Xs intervals told
-          → IsSameBox intervals told
-      from (inl trade) = absurd (out trade.0)
-      from (inr outside) = (outside.box, outside.given, outside.printed)
+  beyond_judged Xs intervals told j out = judges_beyond j (InsideEach intervals Xs)
+      (IsSpreadTrade market.network H (user_number H name) its.spread Xs told)
+      (IsOutside intervals Xs told)
+      (IsSameBox intervals told) (IsSpreadTradeLeftOpen market H (user_number H name) its.spread Xs
+      told) out
+      (λ same. record { outside = out; box = same.0; given = same.1; printed = same.2 })
+      (λ outside. (outside.box, outside.given, outside.printed))
 
   -- without bounds of the present revision: a reply that is no refusal by bounds
   pub anew_judged : (Xs : List ℕ) (told : Reply) (j : Judged) → outside_told told ≡ None
       → Judges j (IsSpreadTrade market.network H (user_number H name) its.spread Xs told) (IsSpreadTradeLeftOpen market H (user_number H name) its.spread Xs told)
       → Judges j (IsSpreadJudgedAfresh market.network H (user_number H name) its.spread Xs told) (IsSpreadTradeLeftOpen market H (user_number H name) its.spread Xs told)
-  anew_judged Xs told j none judged = judges_as j _ _ _ _ (λ trade. inl trade) from (λ o. o) judged
-    where
-      from : IsSpreadJudgedAfresh market.network H (user_number H name) its.spread Xs told → IsSpreadTrade market.network H (user_number H name) its.spread Xs told
-      from (inl trade) = trade
-      from (inr refused) = absurd (let e : Some refused.outside.box ≡ None = sym (ap outside_told refused.outside.printed) ∙ none in cc)
+  anew_judged Xs told j none = judges_alone j
+      (IsSpreadTrade market.network H (user_number H name) its.spread Xs told)
+      (IsOutsideRight market.network H (user_number H name) its.spread Xs told)
+      (IsSpreadTradeLeftOpen market H (user_number H name) its.spread Xs told)
+      (λ refused. let e : Some refused.outside.box ≡ None = sym
+      (ap outside_told refused.outside.printed) ∙ none in cc)
 
   -- and one that is such a refusal
   pub outside_within : (Xs : List ℕ) (box : Option (ArrayVec (ℕ × ℕ))) (told : Reply) → told ≡ reply.Refused (Outside box) → InsideEach (given_in box) Xs
