@@ -61,6 +61,9 @@ least_judged market H u test factor small most_trades b low high j tells sound t
 
 -- ---- prices
 
+same_prices : (told other : ArrayVec (ℕ × ℕ)) → PricesTold told ≡ PricesTold other → told ≡ other
+same_prices told other e = cc
+
 module _ (market : Market) (H : List Entry) (v : List ℕ) (condition : ArrayVec PairText)
     (none : first_refusal market H (Prices v condition) ≡ None) where
   pub prices_told : (bounds : List (Option PriceBounds)) (intervals : ArrayVec (ℕ × ℕ))
@@ -87,10 +90,8 @@ module _ (market : Market) (H : List Entry) (v : List ℕ) (condition : ArrayVec
           → ArePrices market.network H market.max_trades spread (PricesTold intervals)
           → ArePricesOf market.network H market.max_trades spread intervals.items
       from spread h =
-          let e : PricesTold intervals ≡ PricesTold h.intervals = h.printed in
-          let same : intervals ≡ h.intervals = cc in
           let covers = h.covers in
-          rw same covers
+          rw (same_prices intervals h.intervals h.printed) covers
 
   pub no_prices : (reply : Reply)
       → ((intervals : ArrayVec (ℕ × ℕ)) → reply ≡ PricesTold intervals → ⊥)
@@ -102,6 +103,10 @@ module _ (market : Market) (H : List Entry) (v : List ℕ) (condition : ArrayVec
       (λ spread h. other h.intervals h.printed))
 
 -- ---- a position
+
+same_position : (told other : ArrayVec (Option (ℕ × ℕ)))
+    → PositionTold told ≡ PositionTold other → told ≡ other
+same_position told other e = cc
 
 module _ (market : Market) (H : List Entry) (name v : List ℕ) (condition : ArrayVec PairText)
     (none : first_refusal market H (Position name v condition) ≡ None) where
@@ -141,10 +146,8 @@ module _ (market : Market) (H : List Entry) (name v : List ℕ) (condition : Arr
           → IsPositionOf market.network H market.max_trades its_number market.points_per_bit spread
           intervals.items
       from spread h =
-          let e : PositionTold intervals ≡ PositionTold h.intervals = h.printed in
-          let same : intervals ≡ h.intervals = cc in
           let covers = h.covers in
-          rw same covers
+          rw (same_position intervals h.intervals h.printed) covers
 
   pub no_position : (reply : Reply)
       → ((intervals : ArrayVec (Option (ℕ × ℕ))) → reply ≡ PositionTold intervals → ⊥)
