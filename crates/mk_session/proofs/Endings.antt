@@ -18,12 +18,15 @@ use Rattle.mk_exact.specs.Market.{Market}
 use Rattle.mk_rules.specs.Transcript.{Standing}
 use Rattle.mk_session.specs.Transcript.{Start, Transcript}
 use Rattle.mk_session.specs.Outcome.{Adds, IsBroken, IsWholeTo, HasKeepCauses}
-use Rattle.mk_session.specs.inner.Progress.{AreGathered, IsBetween, IsSoFar, IsEnded, ServesTo}
+use Rattle.mk_session.specs.Complete.{AreWithin}
+use Rattle.mk_session.specs.inner.Progress.{AreGathered, IsBetween, IsPlaced, IsSoFar, IsEnded}
+use Rattle.mk_session.specs.inner.Progress.{ServesTo}
 use Rattle.mk_session.specs.declared.waiting.TellFault.{TellFault}
 use Rattle.mk_session.specs.declared.waiting.TellFault.TheVariants.{Disk, Sink}
 use Rattle.mk_session.specs.inner.Telling.{HasTellCause, CountsNoFault, ended_by}
 use Rattle.mk_session.proofs.Answering.{no_more, transcript_of, transcript_stands}
-use Rattle.mk_session.proofs.Underway.{rest_of, are_whole, so_far_next}
+use Rattle.mk_session.proofs.Completing.{past_limits}
+use Rattle.mk_session.proofs.Underway.{IsRest, rest_of, are_whole, so_far_next}
 
 -- the transcript of the lines that are done
 transcript_so_far : (start : Start) (all : List ℕ) (cutting : Cutting) (source : Option (List ℕ))
@@ -54,18 +57,6 @@ pub second_empty : (xs ys : List ℕ) → xs ++ ys ≡ [] → ys ≡ []
 second_empty [] ys e = e
 second_empty (x ∷ xs) ys e = absurd (cc)
 
--- a run ends where nothing more is written
-ended_so : (status : Status) (start : Start) (now : Standing) (all bytes left : List ℕ)
-    (rest before written after : Option (List ℕ)) → rest ≡ Some left
-    → written ≡ append_known before bytes → after ≡ written
-    → ServesTo status start now all left bytes → IsEnded status start now all rest before after
-ended_so status start now all bytes left rest before written after told added still serves =
-    record {
-      rest = left;
-      told = told;
-      output = record { bytes = bytes; added = still ∙ added; holds = serves };
-    }
-
 pub ended_done : (start : Start) (all : List ℕ) (old new : Cutting)
     (source rest : Option (List ℕ)) (now : Standing) (before written after : Option (List ℕ))
     (waits : List ℕ) → waits ≡ [] → (far : IsSoFar start all old source now before written waits)
@@ -95,27 +86,7 @@ ended_done start all old new source rest now before written after waits none_wai
       };
     }
 
-pub ended_read_fault : (start : Start) (all : List ℕ) (old new : Cutting)
-    (source rest : Option (List ℕ)) (now : Standing) (before written after : Option (List ℕ))
-    (waits : List ℕ) → waits ≡ [] → IsSoFar start all old source now before written waits
-    → old.last ≡ None → StopsInLine new (stream_left old source) rest → after ≡ written
-    → IsEnded ReadFault start now all rest before after
-ended_read_fault start all old new source rest now before written after waits none_waits far none
-    stops still =
-    let r = rest_of stops.part far.left rest (sym far.known ∙ stops.taken) in
-    ended_so ReadFault start now all far.answers.bytes r.rest rest before written after r.told
-    far.answers.added still
-    (record {
-      whole = far.done;
-      part = stops.part;
-      bytes = far.bytes ∙ ap (λ (left : List ℕ). far.done ++ left) r.parts;
-      lines = are_whole old.last far.done far.left none far.between;
-      no_lf = stops.no_lf;
-      within = far.within;
-      transcript = transcript_so_far start all old source now before written waits none_waits far;
-    })
-
-pub past_of : (given lines spent bytes most_lines most_bytes size : ℕ) → given ≡ lines
+past_of : (given lines spent bytes most_lines most_bytes size : ℕ) → given ≡ lines
     → spent ≡ bytes
     → (given ≡ most_lines) ⊎ (most_bytes < spent + size) → (lines ≡ most_lines)
     ⊎ (most_bytes < bytes + size)
@@ -123,31 +94,74 @@ past_of given lines spent bytes most_lines most_bytes size e f (inl full) = inl 
 past_of given lines spent bytes most_lines most_bytes size e f (inr past) =
     inr (subst (λ (n : ℕ). most_bytes < n + size) f past)
 
-pub ended_too_many : (start : Start) (all : List ℕ) (old new : Cutting)
-    (source rest : Option (List ℕ)) (now : Standing) (before written after : Option (List ℕ))
-    (waits : List ℕ) → waits ≡ [] → IsSoFar start all old source now before written waits
-    → old.last ≡ None → Overruns old new (stream_left old source) rest → after ≡ written
-    → IsEnded TooMany start now all rest before after
-ended_too_many start all old new source rest now before written after waits none_waits far none
-    over still =
-    let r = rest_of over.part far.left rest (sym far.known ∙ over.taken) in
-    let much : IsTooMuch old (over.part ++ r.rest) =
-    subst (λ (left : List ℕ). IsTooMuch old left) r.parts
-    (subst (λ (o : Option (List ℕ)). IfSome o (IsTooMuch old)) far.known over.much) in
-    ended_so TooMany start now all far.answers.bytes r.rest rest before written after r.told
-    far.answers.added still
-    (record {
-      whole = far.done;
-      part = over.part;
-      bytes = far.bytes ∙ ap (λ (left : List ℕ). far.done ++ left) r.parts;
-      lines = are_whole old.last far.done far.left none far.between;
-      more = much.more;
-      past = past_of old.given (length (stream_lines far.done)) old.spent (length far.done)
-          max_stream_lines max_stream_bytes (first_size (over.part ++ r.rest)) far.given far.spent
-          much.past;
-      within = far.within;
-      transcript = transcript_so_far start all old source now before written waits none_waits far;
-    })
+-- where the next line is too much, the stream is not within the limits
+pub not_within : (all : List ℕ) (old new : Cutting) (source rest : Option (List ℕ))
+    (P : List StreamLine → Type 0) → old.last ≡ None
+    → Overruns old new (stream_left old source) rest → IsPlaced all old source P
+    → AreWithin all → ⊥
+not_within all old new source rest P none over far within =
+    let much : IsTooMuch old far.left = subst (λ (o : Option (List ℕ)). IfSome o (IsTooMuch old))
+    far.known over.much in
+    past_limits all far.done far.left far.bytes (are_whole old.last far.done far.left none
+    far.between) much.more
+    (past_of old.given (length (stream_lines far.done)) old.spent (length far.done) max_stream_lines
+    max_stream_bytes (first_size far.left)
+    far.given far.spent much.past) within
+
+-- a run ends between two lines, where nothing waits and nothing more is written
+module _ (start : Start) (all : List ℕ) (old new : Cutting) (source rest : Option (List ℕ))
+    (now : Standing) (before written after : Option (List ℕ)) (waits : List ℕ)
+    (none_waits : waits ≡ []) (far : IsSoFar start all old source now before written waits)
+    (none : old.last ≡ None) (still : after ≡ written) where
+  -- so, by what its status says of what is left behind a part
+  ends_behind : (status : Status) (part : List ℕ) (r : IsRest part far.left rest)
+      → ServesTo status start now all r.rest far.answers.bytes
+      → IsEnded status start now all rest before after
+  ends_behind status part r serves = record {
+    rest = r.rest;
+    told = r.told;
+    output = record {
+      bytes = far.answers.bytes;
+      added = still ∙ far.answers.added;
+      holds = serves;
+    };
+  }
+
+  pub ended_read_fault : StopsInLine new (stream_left old source) rest
+      → IsEnded ReadFault start now all rest before after
+  ended_read_fault stops =
+      let r = rest_of stops.part far.left rest (sym far.known ∙ stops.taken) in
+      ends_behind ReadFault stops.part r (record {
+        whole = far.done;
+        part = stops.part;
+        bytes = far.bytes ∙ ap (λ (left : List ℕ). far.done ++ left) r.parts;
+        lines = are_whole old.last far.done far.left none far.between;
+        no_lf = stops.no_lf;
+        within = far.within;
+        transcript =
+            transcript_so_far start all old source now before written waits none_waits far;
+      })
+
+  pub ended_too_many : Overruns old new (stream_left old source) rest
+      → IsEnded TooMany start now all rest before after
+  ended_too_many over =
+      let r = rest_of over.part far.left rest (sym far.known ∙ over.taken) in
+      let much : IsTooMuch old (over.part ++ r.rest) =
+      subst (λ (left : List ℕ). IsTooMuch old left) r.parts
+      (subst (λ (o : Option (List ℕ)). IfSome o (IsTooMuch old)) far.known over.much) in
+      ends_behind TooMany over.part r (record {
+        whole = far.done;
+        part = over.part;
+        bytes = far.bytes ∙ ap (λ (left : List ℕ). far.done ++ left) r.parts;
+        lines = are_whole old.last far.done far.left none far.between;
+        more = much.more;
+        past = past_of old.given (length (stream_lines far.done)) old.spent (length far.done)
+            max_stream_lines max_stream_bytes (first_size (over.part ++ r.rest)) far.given far.spent
+            much.past;
+        within = far.within;
+        transcript =
+            transcript_so_far start all old source now before written waits none_waits far;
+      })
 
 -- the bytes before a place are whole lines, or none is left behind it
 pub whole_or_none : (last : Option Next) (done left left_parts : List ℕ) → left ≡ left_parts
@@ -292,7 +306,7 @@ causes_after said ended disk disk_now inputs inputs_now sink sink_now e same cau
     at (Err Sink) cause = (cause.0, (same, cause.1))
 
 -- an answer is a fresh one where none stays
-pub fresh_answer : (result : Next) (old new : Cutting) (source rest : Option (List ℕ))
+fresh_answer : (result : Next) (old new : Cutting) (source rest : Option (List ℕ))
     → old.last ≡ None
     → IsAnswer result old new source rest → IsFreshAnswer result old new source rest
 fresh_answer result old new source rest none answer =
@@ -307,13 +321,21 @@ end_stays result old new source rest ended answer =
     subst (λ (o : Option Next). MatchOption o (IsFreshAnswer result old new source rest)
     (λ last. (result ≡ last) × Stays old new source rest last)) ended answer
 
--- while the lines go on, each answer but the end is a fresh one
-pub none_stays : (result : Next) (old new : Cutting) (source rest : Option (List ℕ))
+-- while the lines go on, no answer but the end stays
+none_stays : (result : Next) (old new : Cutting) (source rest : Option (List ℕ))
     → (result ≡ End → ⊥) → GoesOn old.last
     → IsAnswer result old new source rest → old.last ≡ None
 none_stays result old new source rest other (inl none) answer = none
 none_stays result old new source rest other (inr ended) answer =
     absurd (other (end_stays result old new source rest ended answer).0)
+
+-- so each answer but the end is a fresh one
+pub going_answer : (result : Next) (old new : Cutting) (source rest : Option (List ℕ))
+    → (result ≡ End → ⊥) → GoesOn old.last → IsAnswer result old new source rest
+    → (old.last ≡ None) × IsFreshAnswer result old new source rest
+going_answer result old new source rest other goes_on answer =
+    let none = none_stays result old new source rest other goes_on answer in
+    (none, fresh_answer result old new source rest none answer)
 
 pub stays_at_end : (old new : Cutting) (source rest : Option (List ℕ)) → GoesOn old.last
     → IsAnswer End old new source rest → Stays old new source rest End

@@ -8,7 +8,7 @@ use Rattle.std.proofs.lemmas.List.{length-map, map-append}
 use Rattle.std.proofs.lemmas.List.Elements.{filter-append}
 use Rattle.std.proofs.lemmas.Grind.{flat_map-append}
 use Rattle.mk_io.specs.Outside.{append_known, AddsFront}
-use Rattle.mk_io.specs.Stream.{StreamLine, stream_lines, is_not_blank}
+use Rattle.mk_io.specs.Stream.{StreamLine, is_not_blank}
 use Rattle.mk_io.specs.Cutting.{Cutting}
 use Rattle.mk_io.proofs.Told.{append_known_twice}
 use Rattle.mk_reply.specs.declared.reply.Reply.{Reply}
@@ -230,22 +230,6 @@ left_now start lines now before written waits old holds leaves leave far = recor
   no_fewer = far.no_fewer;
   told = told_in_front start far.asked far.replies far.bytes (length old) far.least far.told;
   left = leave far.least (old ++ records_of (changes_from start far.asked far.replies)) far.held;
-}
-
--- at a place, one fact for another
-pub placed_same : (all : List ℕ) (cutting : Cutting) (source : Option (List ℕ))
-    (P Q : List StreamLine → Type 0) → ((lines : List StreamLine) → P lines → Q lines)
-    → IsPlaced all cutting source P → IsPlaced all cutting source Q
-placed_same all cutting source P Q step far = record {
-  done = far.done;
-  left = far.left;
-  bytes = far.bytes;
-  known = far.known;
-  between = far.between;
-  answers = step (stream_lines far.done) far.answers;
-  given = far.given;
-  spent = far.spent;
-  within = far.within;
 }
 
 pub left_of_placed : (start : Start) (all : List ℕ) (cutting : Cutting)

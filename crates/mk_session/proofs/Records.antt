@@ -21,7 +21,8 @@ use Rattle.mk_session.specs.Transcript.{Start, Asks}
 use Rattle.mk_session.specs.Begins.{CanBegin}
 use Rattle.mk_session.specs.Left.{records_of, IsRecordOf, changes_from}
 
-line_asked : (line : StreamLine) (asked : Line) → Asks line asked → IsLine asked
+-- what a line asks has a text
+pub line_asked : (line : StreamLine) (asked : Line) → Asks line asked → IsLine asked
 line_asked (text bytes) (OfCommand command) asks = asks.0
 line_asked (text bytes) NoCommand asks = tt
 line_asked (text bytes) LongLine asks = absurd asks

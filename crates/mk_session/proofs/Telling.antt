@@ -1,6 +1,6 @@
 -- What a call leaves that tells what waits, or puts a line behind it.
 use Rattle.std.proofs.Common.{◌≡◌, ℕ, ◌^◌, ◌<◌, ◌≤◌, List, [], ◌++◌, length, Option}
-use Rattle.std.proofs.Common.{Ok, Err, inl, inr, refl, sym, ap, ◌∙◌}
+use Rattle.std.proofs.Common.{Result, Ok, Err, OnOk, inl, inr, refl, sym, ap, ◌∙◌}
 use Rattle.std.proofs.lemmas.List.{append-nil}
 use Rattle.mk_io.specs.Outside.{append_known, AddsFront, CountsFault}
 use Rattle.mk_io.proofs.Told.{append_known_none}
@@ -155,13 +155,13 @@ module _ {D K S : Type 0} {is_ready : K → D → ℕ → Type 0} {disk_faults :
   }
 
   module _ {keeper' : K} {disk' : D} {out' : S} {waits : List ℕ} (mid line : List ℕ) where
-    -- a line is put behind what waits then
-    pub told_line : waits ≡ mid ++ line
-        → IsTold {T = Unit {0}} is_ready disk_faults holds leaves passes written sink_faults
-        (Ok tt) keeper keeper' disk disk' out out' waited [] mid
-        → IsTold {T = Unit {0}} is_ready disk_faults holds leaves passes written sink_faults
-        (Ok tt) keeper keeper' disk disk' out out' waited line waits
-    told_line put told = record {
+    -- a line is put behind what waits then, or none is
+    pub told_more : (said : Result (Unit {0}) TellFault) → OnOk said (waits ≡ mid ++ line)
+        → IsTold is_ready disk_faults holds leaves passes written sink_faults said keeper keeper'
+        disk disk' out out' waited [] mid
+        → IsTold is_ready disk_faults holds leaves passes written sink_faults said keeper keeper'
+        disk disk' out out' waited line waits
+    told_more (Ok v) put told = record {
       ready = told.ready;
       cause = told.cause;
       gathers = gathers_line (written out) (written out') waited mid line waits told.gathers put;
@@ -180,14 +180,7 @@ module _ {D K S : Type 0} {is_ready : K → D → ℕ → Type 0} {disk_faults :
             )
           ];
     }
-
-    -- or none is
-    pub told_fault : (fault : TellFault)
-        → IsTold {T = Unit {0}} is_ready disk_faults holds leaves passes written sink_faults
-        (Err fault) keeper keeper' disk disk' out out' waited [] mid
-        → IsTold {T = Unit {0}} is_ready disk_faults holds leaves passes written sink_faults
-        (Err fault) keeper keeper' disk disk' out out' waited line waits
-    told_fault fault told = record {
+    told_more (Err fault) put told = record {
       ready = told.ready;
       cause = told.cause;
       gathers = tt;

@@ -24,16 +24,15 @@ use Rattle.mk_session.specs.inner.Progress.{IsBegun, IsReady, IsSoFar, IsEnded, 
 use Rattle.mk_session.specs.inner.Telling.{HasTellCause, CountsNoFault, ended_by}
 use Rattle.mk_session.specs.inner.Keeping.{HoldsSince, Tells, SpeaksAndTells, IsTold}
 use Rattle.mk_session.specs.inner.Keeping.{AreHeld, AreLeft, IsHeldSoFar}
-use Rattle.mk_session.specs.inner.Turning.{Moment, holding, leaving, Turns, GoesFurther}
+use Rattle.mk_session.specs.inner.Turning.{Moment, moment, holding, leaving, Turns, GoesFurther}
 use Rattle.mk_session.specs.inner.Turning.{EndsThere, ended_at}
-use Rattle.mk_session.proofs.Underway.{placed_next, still_so_far}
+use Rattle.mk_session.proofs.Underway.{placed_next, placed_same, still_so_far}
 use Rattle.mk_session.proofs.Gathering.{none_waits}
 use Rattle.mk_session.proofs.Endings.{ended_done, ended_read_fault, ended_too_many}
 use Rattle.mk_session.proofs.Endings.{goes_on_after, breaks_off, breaks_after, causes_after}
-use Rattle.mk_session.proofs.Endings.{stays_at_end, none_left, steady, risen, fresh_answer}
-use Rattle.mk_session.proofs.Endings.{none_stays}
+use Rattle.mk_session.proofs.Endings.{stays_at_end, none_left, steady, risen, going_answer}
 use Rattle.mk_session.proofs.Going.{IsGoing, placed_at_start, causes_of_turn}
-use Rattle.mk_session.proofs.Held.{held_more, left_more, left_now, placed_same, left_of_placed}
+use Rattle.mk_session.proofs.Held.{held_more, left_more, left_now, left_of_placed}
 
 -- no line more is answered
 none_spoken : {T : Type 0} (said : Result T TellFault) (market : Market) (now : Standing)
@@ -302,16 +301,8 @@ module _ {T D K S : Type 0} {is_ready : K → D → ℕ → Type 0} {disk_faults
     disk disk' out out' waited [] waits) (is_at : Market → Type 0) (lines : Cutting)
     (source : Option (List ℕ)) (standing : Standing) (inputs : ℕ) where
   abbrev at_first : Moment
-  at_first = record {
-    lines = lines;
-    source = source;
-    standing = standing;
-    written = written out;
-    waits = waited;
-    disk = disk_faults disk;
-    inputs = inputs;
-    sink = sink_faults out;
-  }
+  at_first = moment disk_faults (λ (i : Unit {0}). source) (λ (i : Unit {0}). inputs) written
+      sink_faults lines standing waited disk tt out
 
   abbrev at_told : Moment
   at_told = record at_first {
@@ -583,19 +574,17 @@ module _ {D : Type 0} (is_at : Market → Type 0) (old : Moment) (cut : Cutting)
       far.between)
       (stays_at_end old.lines cut old.source rest goes_on answer) refl)
   at_next Unread no_line not_long answer cause held =
-      let none = none_stays Unread old.lines cut old.source rest (λ e. (cc)) goes_on answer in
-      over ReadFault tt (refl, (risen old.lines old.inputs inputs none cause, refl))
+      let going = going_answer Unread old.lines cut old.source rest (λ e. (cc)) goes_on answer in
+      over ReadFault tt (refl, (risen old.lines old.inputs inputs going.0 cause, refl))
       (λ start all before far.
       ended_read_fault start all old.lines cut old.source rest old.standing before old.written
-      old.written old.waits (none_waits old.lines old.waits ready held) far none
-      (fresh_answer Unread old.lines cut old.source rest none answer) refl)
+      old.written old.waits (none_waits old.lines old.waits ready held) far going.0 refl going.1)
   at_next Overrun no_line not_long answer cause held =
-      let none = none_stays Overrun old.lines cut old.source rest (λ e. (cc)) goes_on answer in
+      let going = going_answer Overrun old.lines cut old.source rest (λ e. (cc)) goes_on answer in
       over TooMany tt (refl, (steady Overrun old.lines old.inputs inputs (λ e. (cc)) cause, refl))
       (λ start all before far.
       ended_too_many start all old.lines cut old.source rest old.standing before old.written
-      old.written old.waits (none_waits old.lines old.waits ready held) far none
-      (fresh_answer Overrun old.lines cut old.source rest none answer) refl)
+      old.written old.waits (none_waits old.lines old.waits ready held) far going.0 refl going.1)
 
   pub turn_over : (next : Next) (ended : Option Status) → ended ≡ ended_at next
       → (next ≡ Line → ⊥) → (next ≡ Long → ⊥) → IsAnswer next old.lines cut old.source rest

@@ -149,6 +149,22 @@ so_far_next start all line old new source rest now then before written after wai
           ∙ append_assoc start.head saying.answers said.output;
     }) far
 
+-- at a place, one fact for another
+pub placed_same : (all : List ℕ) (cutting : Cutting) (source : Option (List ℕ))
+    (P Q : List StreamLine → Type 0) → ((lines : List StreamLine) → P lines → Q lines)
+    → IsPlaced all cutting source P → IsPlaced all cutting source Q
+placed_same all cutting source P Q step far = record {
+  done = far.done;
+  left = far.left;
+  bytes = far.bytes;
+  known = far.known;
+  between = far.between;
+  answers = step (stream_lines far.done) far.answers;
+  given = far.given;
+  spent = far.spent;
+  within = far.within;
+}
+
 -- some of what waits was written
 pub still_so_far : (start : Start) (all : List ℕ) (cutting : Cutting) (source : Option (List ℕ))
     (now : Standing) (before written after : Option (List ℕ))
@@ -156,25 +172,15 @@ pub still_so_far : (start : Start) (all : List ℕ) (cutting : Cutting) (source 
     source now before written waited
     → IsSoFar start all cutting source now before after waits
 still_so_far start all cutting source now before written after waited waits gathers far =
-    let bytes = far.answers.bytes in
-    record {
-      done = far.done;
-      left = far.left;
-      bytes = far.bytes;
-      known = far.known;
-      between = far.between;
-      answers = record {
-        begins = far.answers.begins;
-        bytes = bytes ++ gathers.gone;
-        added = gathers.added ∙ ap (λ (w : Option (List ℕ)). append_known w gathers.gone)
-            far.answers.added
-            ∙ append_known_twice before bytes gathers.gone;
-        answers = far.answers.answers;
-        answered = far.answers.answered;
-        printed = sym (parts_behind bytes waited [] gathers.gone waits gathers.parts)
-            ∙ no_more (bytes ++ waited) ∙ far.answers.printed;
-      };
-      given = far.given;
-      spent = far.spent;
-      within = far.within;
-    }
+    placed_same all cutting source (λ lines. AreSaid start lines now before written waited)
+    (λ lines. AreSaid start lines now before after waits)
+    (λ lines said. record {
+      begins = said.begins;
+      bytes = said.bytes ++ gathers.gone;
+      added = gathers.added ∙ ap (λ (w : Option (List ℕ)). append_known w gathers.gone) said.added
+          ∙ append_known_twice before said.bytes gathers.gone;
+      answers = said.answers;
+      answered = said.answered;
+      printed = sym (parts_behind said.bytes waited [] gathers.gone waits gathers.parts)
+          ∙ no_more (said.bytes ++ waited) ∙ said.printed;
+    }) far

@@ -8,7 +8,7 @@ use Rattle.mk_session.specs.Texts.{reply_line}
 use Rattle.mk_session.specs.Left.{LeavesSince}
 use Rattle.mk_session.specs.inner.Keeping.{HoldsSince}
 use Rattle.mk_session.proofs.Answering.{one_replied, one_answered}
-use Rattle.mk_session.proofs.Endings.{fresh_answer, none_stays, steady}
+use Rattle.mk_session.proofs.Endings.{going_answer, steady}
 use Rattle.mk_session.proofs.Gathering.{gathered_when_said}
 use Rattle.mk_session.proofs.Spoken.{long_tells, left_as_held}
 use Rattle.mk_session.proofs.Turns.{turn_after, turn_over, ready_more}
@@ -16,15 +16,12 @@ use Rattle.mk_session.proofs.answer.Conversation.answer_next.Goals as goal
 
 pub returns-in-Line-clause-turn : goal.returns-in-Line-clause-turn
 returns-in-Line-clause-turn g c =
-    let none = none_stays Line c.args.self.now.lines c.next.new.self
+    let going = going_answer Line c.args.self.now.lines c.next.new.self
     (g.I.Inputs.commands c.args.inputs.now) (g.I.Inputs.commands c.next.new.inputs) (λ e. (cc))
     c.requires.goes_on c.in-Line.ensures.answer in
     turn_after _ _ _ _ _ _ _ _ c.answer_text.result c.end_after.result (text c.next.new.self.line)
-    c.next.new.self c.end_after.ensures c.answer_text.ensures.lines none c.next.ensures.within
-    (fresh_answer Line c.args.self.now.lines c.next.new.self
-    (g.I.Inputs.commands c.args.inputs.now) (g.I.Inputs.commands c.next.new.inputs) none
-    c.in-Line.ensures.answer)
-    (steady Line c.args.self.now.lines (g.I.Inputs.faults c.args.inputs.now)
+    c.next.new.self c.end_after.ensures c.answer_text.ensures.lines going.0 c.next.ensures.within
+    going.1 (steady Line c.args.self.now.lines (g.I.Inputs.faults c.args.inputs.now)
     (g.I.Inputs.faults c.next.new.inputs) (λ e. (cc)) c.in-Line.ensures.cause)
     c.answer_text.ensures.ready c.answer_text.ensures.cause c.answer_text.ensures.answered
     c.answer_text.ensures.front c.answer_text.ensures.tells
@@ -33,15 +30,12 @@ pub returns-in-Long-clause-turn : goal.returns-in-Long-clause-turn
 returns-in-Long-clause-turn g c =
     let now = c.args.market.now.standing in
     let told = c.say.ensures.told in
-    let none = none_stays Long c.args.self.now.lines c.next.new.self
+    let going = going_answer Long c.args.self.now.lines c.next.new.self
     (g.I.Inputs.commands c.args.inputs.now) (g.I.Inputs.commands c.next.new.inputs) (λ e. (cc))
     c.requires.goes_on c.in-Long.ensures.answer in
     turn_after _ _ _ _ _ _ _ _ c.say.result c.end_after-in-Long.result long c.next.new.self
-    c.end_after-in-Long.ensures c.say.ensures.lines none c.next.ensures.within
-    (fresh_answer Long c.args.self.now.lines c.next.new.self
-    (g.I.Inputs.commands c.args.inputs.now) (g.I.Inputs.commands c.next.new.inputs) none
-    c.in-Long.ensures.answer).0
-    (steady Long c.args.self.now.lines (g.I.Inputs.faults c.args.inputs.now)
+    c.end_after-in-Long.ensures c.say.ensures.lines going.0 c.next.ensures.within
+    going.1.0 (steady Long c.args.self.now.lines (g.I.Inputs.faults c.args.inputs.now)
     (g.I.Inputs.faults c.next.new.inputs) (λ e. (cc)) c.in-Long.ensures.cause)
     (λ n few is. ready_more c.say.result (g.J.Keeper.is_ready c.say.new.self.keeper c.say.new.disk)
     (g.met.J.Keeper.ready_after c.say.new.self.keeper c.say.new.disk) n
