@@ -1,15 +1,15 @@
 -- The count of the replies: none, one more, and all at the end.
 use Rattle.std.proofs.Common.{◌≡◌, ℕ, ◌+◌, cond, Bool, true, false, All, List, [], ◌∷◌, ◌++◌}
-use Rattle.std.proofs.Common.{length, Option, Some, None, IfSome, IfNone, Result, Ok, Err}
+use Rattle.std.proofs.Common.{Option, Some, None, IfNone, Result, Ok, Err}
 use Rattle.std.proofs.Common.{MatchResult, OnOk, inl, refl, sym, ap, subst, ◌∙◌, arith}
 use Rattle.std.proofs.Common.{length-append}
 use Rattle.std.specs.Int.{from_bool}
 use Rattle.std.proofs.lemmas.List.Elements.{All-nil, All-cons, All-append}
 use Rattle.std.proofs.lemmas.List.Sums.{sum_by_push}
 use Rattle.mk_io.specs.declared.lines.Next.TheVariants.{ReadFault}
-use Rattle.mk_io.specs.Stream.{StreamLine, stream_lines, max_stream_lines, max_stream_bytes}
-use Rattle.mk_io.specs.Cutting.{Cutting, fresh, stream_left, first_size, GivesLine, IsWithinLimits}
-use Rattle.mk_io.specs.Cutting.{Overruns, IsTooMuch, HasReadCause}
+use Rattle.mk_io.specs.Stream.{StreamLine, stream_lines}
+use Rattle.mk_io.specs.Cutting.{Cutting, fresh, stream_left, GivesLine, IsWithinLimits}
+use Rattle.mk_io.specs.Cutting.{HasReadCause}
 use Rattle.mk_exact.specs.Market.{Market}
 use Rattle.mk_reply.specs.declared.reply.Reply.{Reply}
 use Rattle.mk_rules.specs.Standings.{IsMarket}
@@ -20,9 +20,9 @@ use Rattle.mk_session.specs.Complete.{AreWithin}
 use Rattle.mk_session.proofs.Present.{at_first}
 use Rattle.mk_session.proofs.Answering.{no_more, none_replied, then_replied, sound_so_far}
 use Rattle.mk_session.proofs.Answering.{allowed_run_of, opening_begins}
-use Rattle.mk_session.proofs.Underway.{are_whole, placed_next}
-use Rattle.mk_session.proofs.Endings.{past_of, risen}
-use Rattle.mk_session.proofs.Completing.{past_limits, none_rose, none_within_stream}
+use Rattle.mk_session.proofs.Underway.{placed_next}
+use Rattle.mk_session.proofs.Endings.{risen}
+use Rattle.mk_session.proofs.Completing.{none_rose, none_within_stream}
 use Rattle.mk_tally.specs.declared.counts.Tally.{Tally}
 use Rattle.mk_tally.specs.declared.counts.TallyFault.{TallyFault}
 use Rattle.mk_tally.specs.declared.counts.TallyFault.TheVariants.{Memory}
@@ -156,21 +156,6 @@ tally_of market all cutting source now tally far empty =
       counts = counted.counts;
       within = subst AreWithin (sym whole) far.within;
     }
-
--- where the next line is too much, the commands are not within the limits
-pub not_within : (market : Market) (all : List ℕ) (old new : Cutting) (source rest : List ℕ)
-    (now : Standing) (tally : Tally)
-    → IsCountedSoFar market all old source now tally → old.last ≡ None
-    → Overruns old new (stream_left old (Some source)) (Some rest)
-    → AreWithin all → ⊥
-not_within market all old new source rest now tally far none over within =
-    let much : IsTooMuch old far.left = subst (λ (o : Option (List ℕ)). IfSome o (IsTooMuch old))
-    far.known over.much in
-    past_limits all far.done far.left far.bytes (are_whole old.last far.done far.left none
-    far.between) much.more
-    (past_of old.given (length (stream_lines far.done)) old.spent (length far.done) max_stream_lines
-    max_stream_bytes (first_size far.left)
-    far.given far.spent much.past) within
 
 -- a line that is not too long: the count goes on where memory was not wanting
 pub counts_on : {T E U : Type 0} (said : Result T E) (ended : Option (Result U TallyFault))
