@@ -1,9 +1,9 @@
 -- How an audit begins, and how it ends behind the last line.
 use Rattle.std.proofs.Common.{◌≡◌, ◌≢◌, ℕ, ◌+◌, ◌≤◌, List, [], ◌++◌, length, drop}
 use Rattle.std.proofs.Common.{length-drop}
-use Rattle.std.proofs.Common.{Option, Some, None, IfSome, inl, refl, sym, ap, subst, ◌∙◌, arith}
-use Rattle.mk_io.specs.Stream.{StreamLine, stream_lines, max_stream_lines, max_stream_bytes}
-use Rattle.mk_io.specs.Cutting.{Cutting, fresh, stream_left, first_size, Overruns, IsTooMuch}
+use Rattle.std.proofs.Common.{Option, Some, inl, refl, sym, ap, subst, ◌∙◌, arith}
+use Rattle.mk_io.specs.Stream.{StreamLine, stream_lines}
+use Rattle.mk_io.specs.Cutting.{Cutting, fresh}
 use Rattle.mk_exact.specs.Market.{Market}
 use Rattle.mk_rules.specs.Quotes.{Quotes}
 use Rattle.mk_rules.specs.Standings.{IsMarket, IsReady}
@@ -14,11 +14,8 @@ use Rattle.mk_rules.proofs.Follows.{opening_is_bounded}
 use Rattle.mk_rules.specs.Transcript.{Standing, opening}
 use Rattle.mk_session.specs.Texts.{ready_line}
 use Rattle.mk_session.specs.Transcript.{from_opening}
-use Rattle.mk_session.specs.Complete.{AreWithin}
 use Rattle.mk_session.proofs.Answering.{no_more, none_replied, opening_begins, allowed_run_of}
-use Rattle.mk_session.proofs.Underway.{are_whole}
-use Rattle.mk_session.proofs.Endings.{past_of}
-use Rattle.mk_session.proofs.Completing.{past_limits, none_within_stream}
+use Rattle.mk_session.proofs.Completing.{none_within_stream}
 use Rattle.mk_known.specs.Known.{IsKnown}
 use Rattle.mk_audit.specs.declared.verdict.Verdict.{Verdict}
 use Rattle.mk_audit.specs.declared.verdict.Verdict.TheVariants.{Yes, No, Unsure}
@@ -110,20 +107,6 @@ means_at_end verdict market is_market all cutting source now transcript front en
     subst (λ (bytes : List ℕ). Means market (stream_lines bytes) transcript verdict) (sym whole)
     (end_means verdict market is_market (stream_lines far.done) (standing_at now front) transcript
     (left_of transcript front) front.right ends far.answers)
-
--- where the next line is too much, the commands are not within the limits
-pub not_within : (market : Market) (all : List ℕ) (old new : Cutting)
-    (source rest : Option (List ℕ)) (now : Standing) (transcript : List ℕ) (front : Front)
-    → old.last ≡ None → Overruns old new (stream_left old source) rest
-    → IsSoFar market all old source now transcript front → ¬ AreWithin all
-not_within market all old new source rest now transcript front none over far within =
-    let much : IsTooMuch old far.left = subst (λ (o : Option (List ℕ)). IfSome o (IsTooMuch old))
-    far.known over.much in
-    past_limits all far.done far.left far.bytes (are_whole old.last far.done far.left none
-    far.between) much.more
-    (past_of old.given (length (stream_lines far.done)) old.spent (length far.done) max_stream_lines
-    max_stream_bytes (first_size far.left)
-    far.given far.spent much.past) within
 
 -- at the opening nobody is quoted anything
 opened_at : (now : Standing) (quotes : Quotes) → now ≡ opening → quotes ≡ []

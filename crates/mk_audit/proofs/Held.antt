@@ -1,5 +1,5 @@
 -- What a line that was given leaves of an audit: it goes on one line further, or it ends there.
-use Rattle.std.proofs.Common.{◌≡◌, ℕ, List, [], ◌∷◌, ◌++◌, true, Option, Some, None}
+use Rattle.std.proofs.Common.{◌≡◌, ℕ, ◌+◌, List, [], ◌∷◌, ◌++◌, true, Option, Some, None}
 use Rattle.std.proofs.Common.{Result, Ok, Err, IfNone, IfSome, MatchOption, ◌⊎◌, inl, inr}
 use Rattle.std.proofs.Common.{sym, ap, subst, ◌∙◌, arith, append_assoc, length-append}
 use Rattle.std.specs.List.{flat_map}
@@ -23,7 +23,7 @@ use Rattle.mk_audit.specs.declared.verdict.Verdict.TheVariants.{Yes, No, Unsure}
 use Rattle.mk_audit.specs.declared.verdict.AuditFault.{AuditFault}
 use Rattle.mk_audit.specs.declared.verdict.AuditFault.TheVariants.{Read, TooMany, Memory}
 use Rattle.mk_audit.specs.declared.front.Front.{Front}
-use Rattle.mk_audit.specs.Verdicts.{IsReached, IsWrongNext, IsWrongAt, Disallowed, IsOpenNext}
+use Rattle.mk_audit.specs.Verdicts.{IsReached, IsWrongAt, Disallowed, IsOpenNext}
 use Rattle.mk_audit.specs.Verdicts.{AuditEnds, HasAuditCause}
 use Rattle.mk_audit.specs.inner.Progress.{standing_at, left_of, IsPassed, IsStuck, IsUndecided}
 use Rattle.mk_audit.specs.inner.Progress.{AreRepliesTo, EndsAt, Holds, IsHeld, IsSoFar}
@@ -109,34 +109,6 @@ lines_of all done piece left line bytes (inr none) one =
     ap (λ (xs : List ℕ). stream_lines xs) whole ∙ one
     ∙ ap (λ (xs : List ℕ). stream_lines done ++ line ∷ stream_lines xs) (sym none)
 
--- the lines before one that was given have a right front
-reached : (market : Market) (all : List ℕ) (line : StreamLine) (old new : Cutting)
-    (source rest : Option (List ℕ)) (now : Standing) (transcript : List ℕ) (front : Front)
-    (next : StreamLine → List StreamLine → Standing → List ℕ → Type 0) → old.last ≡ None
-    → GivesLine line old new (stream_left old source) (stream_left new rest)
-    → is_not_blank line ≡ true
-    → ((others : List StreamLine) (bytes : List ℕ)
-    → transcript ≡ bytes ++ left_of transcript front
-    → next line others (standing_at now front) bytes)
-    → IsSoFar market all old source now transcript front
-    → IsReached market (stream_lines all) transcript front.right next
-reached market all line old new source rest now transcript front next none gives busy there far =
-    let whole = are_whole old.last far.done far.left none far.between in
-    let b = behind all far.done far.left line old new source rest far.bytes far.known whole gives in
-    let held = far.answers in
-    record {
-      done = stream_lines far.done;
-      line = line;
-      rest = stream_lines b.left;
-      parts = lines_of all far.done gives.piece b.left line b.bytes b.ends b.lines;
-      not_blank = busy;
-      now = standing_at now front;
-      front = held.front;
-      right = held.right;
-      begins = record { rest = left_of transcript front; parts = held.parts };
-      there = there (stream_lines b.left) held.front held.parts;
-    }
-
 -- what stands behind a front is what is left
 behind_front : (transcript bytes left line : List ℕ) → transcript ≡ bytes ++ left
     → IsFrontOf transcript (bytes ++ line) → IsFrontOf left line
@@ -155,72 +127,75 @@ in_front transcript bytes left line parts front = record {
       ∙ sym (append_assoc bytes line front.rest);
 }
 
-wrong_next : (start market : Market) (all : List ℕ) (line : StreamLine) (old new : Cutting)
+-- a line was given behind lines that were passed
+module _ (start market : Market) (all : List ℕ) (line : StreamLine) (old new : Cutting)
     (source rest : Option (List ℕ)) (now : Standing) (transcript : List ℕ) (front : Front)
-    → market ≡ present start now.history → old.last ≡ None
-    → GivesLine line old new (stream_left old source) (stream_left new rest)
-    → IsStuck market (standing_at now front) line (left_of transcript front)
-    → IsSoFar start all old source now transcript front
-    → IsWrongNext start (stream_lines all) transcript front.right
-wrong_next start market all line old new source rest now transcript front at none gives stuck far =
-    reached start all line old new source rest now transcript front _ none gives stuck.not_blank
-    (λ others bytes parts. (
-      stuck.asked,
-      stuck.asks,
-      λ gone. stuck.none gone.reply
-          (subst (λ (m : Market). IsAllowedFor m (standing_at now front) stuck.asked gone.reply)
-          (sym at) gone.allowed)
-          (behind_front transcript bytes (left_of transcript front) (reply_line gone.reply) parts
-          gone.stands),
-    )) far
+    (at : market ≡ present start now.history) (none : old.last ≡ None)
+    (gives : GivesLine line old new (stream_left old source) (stream_left new rest))
+    (far : IsSoFar start all old source now transcript front) where
+  -- the lines before it have a right front
+  reached : (next : StreamLine → List StreamLine → Standing → List ℕ → Type 0)
+      → is_not_blank line ≡ true
+      → ((others : List StreamLine) (bytes : List ℕ)
+      → transcript ≡ bytes ++ left_of transcript front
+      → next line others (standing_at now front) bytes)
+      → IsReached start (stream_lines all) transcript front.right next
+  reached next busy there =
+      let whole = are_whole old.last far.done far.left none far.between in
+      let b = behind all far.done far.left line old new source rest far.bytes far.known whole
+      gives in
+      let held = far.answers in
+      record {
+        done = stream_lines far.done;
+        line = line;
+        rest = stream_lines b.left;
+        parts = lines_of all far.done gives.piece b.left line b.bytes b.ends b.lines;
+        not_blank = busy;
+        now = standing_at now front;
+        front = held.front;
+        right = held.right;
+        begins = record { rest = left_of transcript front; parts = held.parts };
+        there = there (stream_lines b.left) held.front held.parts;
+      }
 
-open_next : (start market : Market) (all : List ℕ) (line : StreamLine) (old new : Cutting)
-    (source rest : Option (List ℕ)) (now : Standing) (transcript : List ℕ) (front : Front)
-    → market ≡ present start now.history → old.last ≡ None
-    → GivesLine line old new (stream_left old source) (stream_left new rest)
-    → IsUndecided market (standing_at now front) line (left_of transcript front)
-    → IsSoFar start all old source now transcript front
-    → IsOpenNext start (stream_lines all) transcript front.right
-open_next start market all line old new source rest now transcript front at none gives told far =
-    reached start all line old new source rest now transcript front _ none gives told.not_blank
-    (λ others bytes parts. (
-      told.command,
-      told.reply,
-      told.asks,
-      told.is_reply,
-      in_front transcript bytes (left_of transcript front) (reply_line told.reply) parts
-          told.stands,
-      subst (λ (m : Market). IsOpen m now.history front.known.quotes told.command told.reply) at
-          told.is_open,
-    )) far
+  is_wrong : IsStuck market (standing_at now front) line (left_of transcript front)
+      → IsWrongAt start (stream_lines all) transcript (front.right + 1)
+  is_wrong stuck =
+      Disallowed front.right (reached _ stuck.not_blank (λ others bytes parts. (
+        stuck.asked,
+        stuck.asks,
+        λ gone. stuck.none gone.reply
+            (subst (λ (m : Market). IsAllowedFor m (standing_at now front) stuck.asked gone.reply)
+            (sym at) gone.allowed)
+            (behind_front transcript bytes (left_of transcript front) (reply_line gone.reply)
+            parts gone.stands),
+      )))
 
--- the audit ends at a line that was given
-ends_there : (end : Result Verdict AuditFault) (start market : Market) (all : List ℕ)
-    (line : StreamLine) (old new : Cutting) (source rest : Option (List ℕ)) (now : Standing)
-    (transcript : List ℕ) (front : Front) → market ≡ present start now.history → old.last ≡ None
-    → GivesLine line old new (stream_left old source) (stream_left new rest)
-    → EndsAt end market (standing_at now front) line (left_of transcript front) front.right
-    → IsSoFar start all old source now transcript front → AuditEnds end start all transcript
-ends_there (Ok (Yes n)) start market all line old new source rest now transcript front at none gives
-    h far = absurd h
-ends_there (Ok (No n)) start market all line old new source rest now transcript front at none gives
-    h far =
-    subst (IsWrongAt start (stream_lines all) transcript) (sym h.0)
-    (Disallowed front.right (wrong_next start market all line old new source rest now transcript
-    front at none gives h.1 far))
-ends_there (Ok (Unsure n)) start market all line old new source rest now transcript front at none
-    gives h far = (
-      front.right,
-      h.0,
-      open_next start market all line old new source rest now transcript front at none gives h.1
-          far,
-    )
-ends_there (Err Read) start market all line old new source rest now transcript front at none gives
-    h far = tt
-ends_there (Err TooMany) start market all line old new source rest now transcript front at none
-    gives h far = absurd h
-ends_there (Err Memory) start market all line old new source rest now transcript front at none gives
-    h far = tt
+  open_next : IsUndecided market (standing_at now front) line (left_of transcript front)
+      → IsOpenNext start (stream_lines all) transcript front.right
+  open_next told =
+      reached _ told.not_blank (λ others bytes parts. (
+        told.command,
+        told.reply,
+        told.asks,
+        told.is_reply,
+        in_front transcript bytes (left_of transcript front) (reply_line told.reply) parts
+            told.stands,
+        subst (λ (m : Market). IsOpen m now.history front.known.quotes told.command told.reply) at
+            told.is_open,
+      ))
+
+  -- the audit ends at that line
+  ends_there : (end : Result Verdict AuditFault)
+      → EndsAt end market (standing_at now front) line (left_of transcript front) front.right
+      → AuditEnds end start all transcript
+  ends_there (Ok (Yes n)) h = absurd h
+  ends_there (Ok (No n)) h =
+      subst (IsWrongAt start (stream_lines all) transcript) (sym h.0) (is_wrong h.1)
+  ends_there (Ok (Unsure n)) h = (front.right, h.0, open_next h.1)
+  ends_there (Err Read) h = tt
+  ends_there (Err TooMany) h = absurd h
+  ends_there (Err Memory) h = tt
 
 -- what is found of a line that was given, where the audit goes on
 pub goes_on_behind : (ended : Option (Result Verdict AuditFault)) (market : Market)
@@ -249,8 +224,8 @@ pub ends_behind : (ended : Option (Result Verdict AuditFault)) (market : Market)
     → AuditEnds end start all transcript)
 ends_behind None market line old new source rest now then transcript before after none gives h = tt
 ends_behind (Some end) market line old new source rest now then transcript before after none gives
-    h = λ start all is_market at far. ends_there end start market all line old new source rest now
-    transcript before at none gives h far
+    h = λ start all is_market at far. ends_there start market all line old new source rest now
+    transcript before at none gives far end h
 
 -- no read failed at a line that was given
 cause_there : (end : Result Verdict AuditFault) (market : Market) (now : Standing)

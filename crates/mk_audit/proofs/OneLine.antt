@@ -1,14 +1,17 @@
 -- The text of a reply has no LF, so a line of a transcript is one reply's.
 use Rattle.std.proofs.Common.{◌≡◌, ◌≢◌, ℕ, ◌+◌, ◌^◌, ◌<◌, ◌/◌, ◌%◌, Bool, true, false, not, ◌&&◌}
 use Rattle.std.proofs.Common.{List, [], ◌∷◌, ◌++◌, Option, Some, None}
-use Rattle.std.proofs.Common.{refl, sym, ap₂, subst, ◌∙◌, arith, append_assoc}
+use Rattle.std.proofs.Common.{refl, sym, ap, subst, ◌∙◌, arith, append_assoc}
 use Rattle.std.specs.Prelude.{◌==◌, codes, decimal, All}
 use Rattle.std.specs.List.{AllByRecursion, list_all}
 use Rattle.std.proofs.lemmas.Bool.{eq-eqb, and_parts}
 use Rattle.std.proofs.lemmas.Bool.Decides.{nat_tests}
 use Rattle.std.proofs.lemmas.Fmt.{decimal_is_IsNumeral}
+use Rattle.std.proofs.lemmas.List.{append_cancel_left}
 use Rattle.std.proofs.lemmas.List.Elements.{recursion_from_All, All-from_recursion}
 use Rattle.std.proofs.lemmas.List.Folds.{list_all-append}
+use Rattle.mk_io.specs.Stream.{parts as lf_parts}
+use Rattle.mk_io.proofs.Answered.{parts_whole}
 use Rattle.mk_names.specs.Name.{IsName, is_name_byte}
 use Rattle.mk_net.specs.declared.words.PairText.{PairText}
 use Rattle.mk_text.specs.Joined.{◌&◌, items_text, spaced, AreSeveral}
@@ -42,7 +45,7 @@ use Rattle.mk_reply.specs.declared.refusal.Refusal.TheVariants.{Variables, Taken
 use Rattle.mk_reply.specs.declared.refusal.Refusal.TheVariants.{RowCount, RowWidth, Cells, Link}
 use Rattle.mk_reply.specs.declared.refusal.Refusal.TheVariants.{Uncovered, NotRunning, Unsettled}
 use Rattle.mk_reply.proofs.ReplyLaws.{form_tells}
-use Rattle.mk_session.specs.Texts.{reply_line}
+use Rattle.mk_session.specs.Texts.{as_line, reply_line}
 use Rattle.mk_audit.specs.Laws.{ReplyIsOneLine}
 
 abbrev is_within : ℕ → Bool
@@ -312,36 +315,24 @@ each_within (b ∷ bytes) h =
     let parts = and_parts (is_within b) (list_all is_within bytes) h in
     (not_lf b parts.0, each_within bytes parts.1)
 
-pub reply_within : (reply : Reply) → IsReply reply
-    → AllByRecursion (λ b. b ≢ 10) (reply_text reply)
-reply_within reply is = each_within (reply_text reply) (in_line reply is)
-
 pub reply_is_one_line : ReplyIsOneLine
 reply_is_one_line reply is =
-    All-from_recursion (λ b. b ≢ 10) (reply_text reply) (reply_within reply is)
+    All-from_recursion (λ b. b ≢ 10) (reply_text reply)
+    (each_within (reply_text reply) (in_line reply is))
 
--- bytes of which two lines are the front, up to the first LF
-same_front : (a b r s : List ℕ) → AllByRecursion (λ b. b ≢ 10) a → AllByRecursion (λ b. b ≢ 10) b
-    → a ++ 10 ∷ r ≡ b ++ 10 ∷ s → (a ≡ b) × (r ≡ s)
-same_front [] [] r s h k e = (refl, behind r s e)
+-- two lines in front of the same bytes, up to the first LF, are one, and so is what is behind
+same_front : (a b r s : List ℕ) → All (λ b. b ≢ 10) a → All (λ b. b ≢ 10) b
+    → as_line a ++ r ≡ as_line b ++ s → (a ≡ b) × (r ≡ s)
+same_front a b r s h k e =
+    let same = first a b (lf_parts r) (lf_parts s)
+    (sym (parts_whole a r h) ∙ ap lf_parts e ∙ parts_whole b s k) in (
+      same,
+      append_cancel_left (as_line b) r s
+          (subst (λ (line : List ℕ). as_line line ++ r ≡ as_line b ++ s) same e),
+    )
   where
-    behind : (r s : List ℕ) → 10 ∷ r ≡ 10 ∷ s → r ≡ s
-    behind r s e = cc
-same_front [] (c ∷ b) r s h k e = absurd (k.0 (sym (first c r (b ++ 10 ∷ s) e)))
-  where
-    first : (c : ℕ) (r s : List ℕ) → 10 ∷ r ≡ c ∷ s → 10 ≡ c
-    first c r s e = cc
-same_front (c ∷ a) [] r s h k e = absurd (h.0 (first c (a ++ 10 ∷ r) s e))
-  where
-    first : (c : ℕ) (r s : List ℕ) → c ∷ r ≡ 10 ∷ s → c ≡ 10
-    first c r s e = cc
-same_front (c ∷ a) (d ∷ b) r s h k e =
-    let parts = split c d (a ++ 10 ∷ r) (b ++ 10 ∷ s) e in
-    let later = same_front a b r s h.1 k.1 parts.1 in
-    (ap₂ (λ (x : ℕ) (xs : List ℕ). x ∷ xs) parts.0 later.0, later.1)
-  where
-    split : (c d : ℕ) (r s : List ℕ) → c ∷ r ≡ d ∷ s → (c ≡ d) × (r ≡ s)
-    split c d r s e = (cc, cc)
+    first : (a b : List ℕ) (r s : List (List ℕ)) → a ∷ r ≡ b ∷ s → a ≡ b
+    first a b r s e = cc
 
 -- the line of a reply, and what stands behind it
 pub line_and : (reply : Reply) (behind : List ℕ)
@@ -353,15 +344,15 @@ pub reply_is_first : (reply : Reply) (line rest behind : List ℕ) → IsReply r
     → All (λ b. b ≢ 10) line → line ++ 10 ∷ rest ≡ reply_line reply ++ behind
     → line ≡ reply_text reply
 reply_is_first reply line rest behind is none e =
-    (same_front line (reply_text reply) rest behind (recursion_from_All (λ b. b ≢ 10) line none)
-    (reply_within reply is) (e ∙ line_and reply behind)).0
+    (same_front line (reply_text reply) rest behind none (reply_is_one_line reply is)
+    (append_assoc line (10 ∷ []) rest ∙ e)).0
 
 -- the lines of two replies are in front of the same bytes: they are one, and so is what is behind
 pub one_reply : (one other : Reply) (behind rest : List ℕ) → IsReply one → IsReply other
     → reply_line one ++ behind ≡ reply_line other ++ rest → (one ≡ other) × (behind ≡ rest)
 one_reply one other behind rest is also e =
-    let same = same_front (reply_text one) (reply_text other) behind rest (reply_within one is)
-    (reply_within other also) (sym (line_and one behind) ∙ e ∙ line_and other rest) in
+    let same = same_front (reply_text one) (reply_text other) behind rest
+    (reply_is_one_line one is) (reply_is_one_line other also) e in
     (whole_one form_tells one other is also same.0, same.1)
 
 -- bytes with no LF begin with no reply's line

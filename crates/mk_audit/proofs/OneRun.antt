@@ -23,17 +23,9 @@ use Rattle.mk_session.specs.Texts.{ready_line, reply_line}
 use Rattle.mk_session.specs.Transcript.{Asks}
 use Rattle.mk_session.specs.Begins.{CanBegin}
 use Rattle.mk_session.proofs.Answering.{opening_begins}
+use Rattle.mk_session.proofs.Records.{line_asked}
 use Rattle.mk_audit.specs.Laws.{RightFrontIsOne}
 use Rattle.mk_audit.proofs.OneLine.{one_reply}
-
--- what a line asks has a text
-pub line_asked : (line : StreamLine) (asked : Line) → Asks line asked → IsLine asked
-line_asked (text bytes) (OfCommand command) asks = asks.0
-line_asked (text bytes) NoCommand asks = tt
-line_asked (text bytes) LongLine asks = absurd asks
-line_asked long LongLine asks = tt
-line_asked long NoCommand asks = absurd asks
-line_asked long (OfCommand command) asks = absurd asks
 
 -- a line asks one thing
 pub asks_one : (line : StreamLine) (a b : Line) → Asks line a → Asks line b → a ≡ b
@@ -72,7 +64,7 @@ run_has_text market now begins =
     has_text (present market now.history) now begins.ready (bounded_here market now begins)
 
 -- and behind it the run can go on
-pub begins_after : (market : Market) (now : Standing) → CanBegin market now → (asked : Line)
+begins_after : (market : Market) (now : Standing) → CanBegin market now → (asked : Line)
     (reply : Reply) → IsLine asked
     → IsAllowedFor (present market now.history) now asked reply
     → CanBegin market (after (present market now.history) now asked reply)
@@ -101,12 +93,12 @@ first_and reply replies behind =
     ∙ append_assoc (reply_line reply) (flat_map reply_line replies) behind
 
 -- a first line of two runs in one standing: both ask the same, and have the same reply
-pub record IsOneStep (x y : Line) (r s : Reply) (behind rest : List ℕ) : Type 0 where
+record IsOneStep (x y : Line) (r s : Reply) (behind rest : List ℕ) : Type 0 where
   pub asked : y ≡ x
   pub reply : s ≡ r
   pub behind_both : behind ≡ rest
 
-pub one_step : (market : Market) (now : Standing) → CanBegin market now → (line : StreamLine)
+one_step : (market : Market) (now : Standing) → CanBegin market now → (line : StreamLine)
     (x y : Line) (r s : Reply) (behind rest : List ℕ) → Asks line x → Asks line y
     → IsAllowedFor (present market now.history) now x r
     → IsAllowedFor (present market now.history) now y s
@@ -118,6 +110,35 @@ one_step market now begins line x y r s behind rest first second allowed also e 
       asked = asks_one line y x second first;
       reply = sym same.0;
       behind_both = same.1;
+    }
+
+-- two runs in one standing whose first line is one: behind it both go on in one standing
+pub record IsOneFirst (market : Market) (now then : Standing) (ys : List Line) (r s : Reply)
+    (ss : List Reply) (behind rest : List ℕ) : Type 0 where
+  pub reply : s ≡ r
+  pub begins : CanBegin market now
+  pub run : Run market now ys ss then
+  pub behind_both : behind ≡ rest
+
+pub one_first : (market : Market) (old then : Standing) → CanBegin market old
+    → (line : StreamLine) (x y : Line) (ys : List Line) (r s : Reply) (rs ss : List Reply)
+    (u v : List ℕ) → Asks line x → Asks line y
+    → IsAllowedFor (present market old.history) old x r
+    → Run market old (y ∷ ys) (s ∷ ss) then
+    → flat_map reply_line (r ∷ rs) ++ u ≡ flat_map reply_line (s ∷ ss) ++ v
+    → IsOneFirst market (after (present market old.history) old x r) then ys r s ss
+    (flat_map reply_line rs ++ u) (flat_map reply_line ss ++ v)
+one_first market old then begins line x y ys r s rs ss u v asks also allowed run e =
+    let step = one_step market old begins line x y r s (flat_map reply_line rs ++ u)
+    (flat_map reply_line ss ++ v) asks also allowed run.0
+    (sym (first_and r rs u) ∙ e ∙ first_and s ss v) in
+    let here = present market old.history in
+    record {
+      reply = step.reply;
+      begins = begins_after market old begins x r (line_asked line x asks) allowed;
+      run = subst (λ (q : Reply). Run market (after here old x q) ys ss then) step.reply
+          (subst (λ (q : Line). Run market (after here old q s) ys ss then) step.asked run.1);
+      behind_both = step.behind_both;
     }
 
 -- all lines of two such runs
@@ -143,17 +164,11 @@ one_run market old new then begins (l ∷ ls) (x ∷ xs) (y ∷ ys) (r ∷ rs) [
     absurd other
 one_run market old new then begins (l ∷ ls) (x ∷ xs) (y ∷ ys) (r ∷ rs) (s ∷ ss) u v a b run other
     e =
-    let step = one_step market old begins l x y r s (flat_map reply_line rs ++ u)
-    (flat_map reply_line ss ++ v) a.0 b.0 run.0 other.0
-    (sym (first_and r rs u) ∙ e ∙ first_and s ss v) in
-    let here = present market old.history in
-    let next = subst (λ (q : Reply). Run market (after here old x q) ys ss then) step.reply
-    (subst (λ (q : Line). Run market (after here old q s) ys ss then) step.asked other.1) in
-    let later = one_run market (after here old x r) new then
-    (begins_after market old begins x r (line_asked l x a.0) run.0) ls xs ys rs ss u v a.1 b.1
-    run.1 next step.behind_both in
+    let both = one_first market old then begins l x y ys r s rs ss u v a.0 b.0 run.0 other e in
+    let later = one_run market (after (present market old.history) old x r) new then both.begins ls
+    xs ys rs ss u v a.1 b.1 run.1 both.run both.behind_both in
     record {
-      replies = ap₂ (λ (q : Reply) (qs : List Reply). q ∷ qs) (sym step.reply) later.replies;
+      replies = ap₂ (λ (q : Reply) (qs : List Reply). q ∷ qs) (sym both.reply) later.replies;
       stands = later.stands;
       behind_both = later.behind_both;
     }

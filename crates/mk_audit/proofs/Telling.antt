@@ -3,26 +3,16 @@ use Rattle.std.proofs.Common.{◌≡◌, ℕ, ◌+◌, ◌<◌, ◌≤◌, List,
 use Rattle.std.proofs.Common.{Result, Ok, Err, refl, sym, ap, subst, ◌∙◌, arith, IsOk}
 use Rattle.std.proofs.lemmas.List.{take_all, length-take}
 use Rattle.mk_io.specs.declared.status.Status.{Status}
-use Rattle.mk_io.specs.declared.status.Status.TheVariants.{Done, Usage, MarketRefused, ReadFault}
-use Rattle.mk_io.specs.declared.status.Status.TheVariants.{WriteFault, Memory, TooMany}
-use Rattle.mk_io.specs.declared.status.Status.TheVariants.{DiskFault, StoreRefused}
+use Rattle.mk_io.specs.declared.status.Status.TheVariants.{Done, Usage, WriteFault, Memory}
 use Rattle.mk_io.specs.Outside.{Rose}
-use Rattle.mk_io.proofs.Told.{append_known_none}
 use Rattle.mk_exact.specs.Market.{Market}
 use Rattle.mk_file.specs.declared.fault.FileFault.{FileFault}
 use Rattle.mk_file.specs.declared.fault.FileFault.TheVariants.{Memory as FileMemory}
 use Rattle.mk_session.specs.Outcome.{Adds, Refuses, HasCauses, IsTurnedAway}
+use Rattle.mk_session.proofs.Serving.{adds_nothing}
 use Rattle.mk_audit.specs.AuditOutcome.{IsJudged, IsAudited, AuditsTo, EndsAudit}
 use Rattle.mk_audit.specs.AuditOutcome.{max_transcript_bytes}
 use Rattle.mk_audit.specs.inner.Telling.{Says}
-
--- nothing was written
-pub none_added : (written : Option (List ℕ)) (P : List ℕ → Type 0) → P [] → Adds written written P
-none_added written P holds = record {
-  bytes = [];
-  added = append_known_none written;
-  holds = holds;
-}
 
 -- the one line of an audit was written, or a front of it
 says_audited : (status : Status) (market : Market) (all text line output : List ℕ)
@@ -32,13 +22,7 @@ says_audited Done market all text line output audited says =
     subst (λ (o : List ℕ). IsAudited market all text o) (sym says) audited
 says_audited WriteFault market all text line output audited says =
     record { whole = line; audited = audited; front = says }
-says_audited Usage market all text line output audited says = absurd says
-says_audited MarketRefused market all text line output audited says = absurd says
-says_audited ReadFault market all text line output audited says = absurd says
-says_audited Memory market all text line output audited says = absurd says
-says_audited TooMany market all text line output audited says = absurd says
-says_audited DiskFault market all text line output audited says = absurd says
-says_audited StoreRefused market all text line output audited says = absurd says
+says_audited status market all text line output audited says = absurd says
 
 pub told_audited : (status : Status) (market : Market) (all text line : List ℕ)
     (before written : Option (List ℕ)) → IsAudited market all text line
@@ -57,13 +41,7 @@ ends_said : (status : Status) (line output : List ℕ) (sink sink_now : ℕ)
 ends_said Done line output sink sink_now says causes steady = inl refl
 ends_said WriteFault line output sink sink_now says causes steady =
     absurd (steady causes.1.rose)
-ends_said Usage line output sink sink_now says causes steady = absurd says
-ends_said MarketRefused line output sink sink_now says causes steady = absurd says
-ends_said ReadFault line output sink sink_now says causes steady = absurd says
-ends_said Memory line output sink sink_now says causes steady = absurd says
-ends_said TooMany line output sink sink_now says causes steady = absurd says
-ends_said DiskFault line output sink sink_now says causes steady = absurd says
-ends_said StoreRefused line output sink sink_now says causes steady = absurd says
+ends_said status line output sink sink_now says causes steady = absurd says
 
 pub ends_told : (status : Status) (line : List ℕ) (before written : Option (List ℕ))
     (sink sink_now : ℕ) → Adds before written (Says status line)
@@ -114,13 +92,7 @@ part_audits WriteFault market all part text output is audits = record {
   audited = part_audited market all part text audits.whole is audits.audited;
   front = audits.front;
 }
-part_audits TooMany market all part text output is audits = audits
-part_audits ReadFault market all part text output is audits = audits
-part_audits Memory market all part text output is audits = audits
-part_audits MarketRefused market all part text output is audits = audits
-part_audits Usage market all part text output is audits = audits
-part_audits DiskFault market all part text output is audits = audits
-part_audits StoreRefused market all part text output is audits = audits
+part_audits status market all part text output is audits = audits
 
 pub told_of_part : (status : Status) (market : Market) (all part text : List ℕ)
     (before written : Option (List ℕ)) → part ≡ take (max_transcript_bytes + 1) text
@@ -139,11 +111,8 @@ nothing_said (Err fault) all text = refl
 
 wanted : (P : List ℕ → Type 0) (before written : Option (List ℕ)) → written ≡ before → P []
     → Adds before written P
-wanted P before written same holds = record {
-  bytes = [];
-  added = same ∙ append_known_none before;
-  holds = holds;
-}
+wanted P before written same holds =
+    subst (λ (w : Option (List ℕ)). Adds before w P) (sym same) (adds_nothing before P holds)
 
 pub told_refused : (status : Status) (fault : FileFault) (given : Result Market FileFault)
     (all text : List ℕ) (before written : Option (List ℕ))

@@ -17,8 +17,7 @@ use Rattle.mk_session.proofs.Answering.{no_more, opening_begins}
 use Rattle.mk_audit.specs.Verdicts.{IsRightFront, IsWrongNext, IsTooLong, IsWrongAt}
 use Rattle.mk_audit.specs.Verdicts.{Unready, Disallowed, Longer}
 use Rattle.mk_audit.specs.Laws.{WrongIsNone}
-use Rattle.mk_audit.proofs.OneRun.{asks_one, line_asked, begins_after, first_and, one_step, one_run}
-use Rattle.mk_audit.proofs.OneRun.{behind_ready}
+use Rattle.mk_audit.proofs.OneRun.{asks_one, first_and, one_first, one_run, behind_ready}
 
 -- the reply of a longer run to the line behind those of a shorter one
 record IsNextReply (market : Market) (now : Standing) (asked : Line) (behind : List ℕ) : Type
@@ -58,15 +57,9 @@ next_reply market old now last begins (l ∷ ls) ms line asked (x ∷ xs) (y ∷
     asks run other e = absurd other
 next_reply market old now last begins (l ∷ ls) ms line asked (x ∷ xs) (y ∷ ys) (r ∷ rs) (s ∷ ss) u v
     a b asks run other e =
-    let step = one_step market old begins l x y r s (flat_map reply_line rs ++ u)
-    (flat_map reply_line ss ++ v) a.0 b.0 run.0 other.0
-    (sym (first_and r rs u) ∙ e ∙ first_and s ss v) in
-    let here = present market old.history in
-    let next = subst (λ (q : Reply). Run market (after here old x q) ys ss last) step.reply
-    (subst (λ (q : Line). Run market (after here old q s) ys ss last) step.asked other.1) in
-    next_reply market (after here old x r) now last
-    (begins_after market old begins x r (line_asked l x a.0) run.0) ls ms line asked xs ys rs ss u v
-    a.1 b.1 asks run.1 next step.behind_both
+    let both = one_first market old last begins l x y ys r s rs ss u v a.0 b.0 run.0 other e in
+    next_reply market (after (present market old.history) old x r) now last both.begins ls ms line
+    asked xs ys rs ss u v a.1 b.1 asks run.1 both.run both.behind_both
 
 -- a transcript's replies, behind the ready line
 transcript_behind : (market : Market) (lines : List StreamLine) (transcript : List ℕ)

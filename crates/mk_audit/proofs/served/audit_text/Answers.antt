@@ -2,7 +2,8 @@ use Rattle.std.proofs.Common.{refl}
 use Rattle.mk_file.specs.MarketOf.{market_of}
 use Rattle.mk_audit.specs.AuditOutcome.{AuditsTo}
 use Rattle.mk_io.specs.declared.status.Status.TheVariants.{TooMany}
-use Rattle.mk_audit.proofs.Telling.{none_added, ends_told}
+use Rattle.mk_session.proofs.Serving.{adds_nothing}
+use Rattle.mk_audit.proofs.Telling.{ends_told}
 use Rattle.mk_audit.proofs.served.audit_text.Goals as goal
 
 pub returns-then-len-gt-MAX_TRANSCRIPT_BYTES-clause-complete :
@@ -23,7 +24,7 @@ returns-in-Ok-clause-complete g c = λ all told within inputs_steady sink_steady
 pub returns-in-Err-TooMany-clause-outcome : goal.returns-in-Err-TooMany-clause-outcome
 returns-in-Err-TooMany-clause-outcome g c = λ all told.
     let ends = rw c.in-Err-TooMany.field-0-is at c.in-Err-TooMany.ensures.ends in
-    none_added (g.S.Sink.written c.args.out.now)
+    adds_nothing (g.S.Sink.written c.args.out.now)
     (AuditsTo TooMany (market_of c.args.file) all c.args.text.items) (refl, ends all told)
 
 pub returns-in-Err-TooMany-clause-complete : goal.returns-in-Err-TooMany-clause-complete
