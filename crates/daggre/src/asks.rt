@@ -15,33 +15,22 @@ use mk_net::PairText;
 pub fn ask_of(word: &str, words: &[&str]) -> Option<Ask>
     ensures { result ≡ ask_of word.now (map (λ w. w.now) words.now) }
 {
-    if is_chance(word) {
+    if is_text(word, "chance") {
         chance_in(words)
-    } else if is_best(word) {
+    } else if is_text(word, "best") {
         best_in(words)
-    } else if is_expect(word) {
+    } else if is_text(word, "expect") {
         expect_in(words)
     } else {
         None
     }
 }
 
-fn is_chance(word: &str) -> bool
-    ensures { result ≡ same_text word.now (codes "chance") }
+/// Whether a word is this text.
+pub(crate) fn is_text(word: &str, text: &str) -> bool
+    ensures { result ≡ same_text word.now text.now }
 {
-    word == "chance"
-}
-
-fn is_best(word: &str) -> bool
-    ensures { result ≡ same_text word.now (codes "best") }
-{
-    word == "best"
-}
-
-fn is_expect(word: &str) -> bool
-    ensures { result ≡ same_text word.now (codes "expect") }
-{
-    word == "expect"
+    word == text
 }
 
 /// The chance that some words ask for.

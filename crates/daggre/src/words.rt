@@ -1,13 +1,13 @@
 //! What the words of a call ask for.
 
-ghost use Rattle.std.specs.Prelude.{◌≡◌, ◌≤◌, [], ◌∷◌, map, codes, decimal, IfSome};
+ghost use Rattle.std.specs.Prelude.{◌≡◌, ◌≤◌, [], ◌∷◌, map, decimal, IfSome};
 ghost use Rattle.std.specs.Prelude.{option_map, length};
 ghost use Rattle.mk_names.specs.Texts.{same_text};
 ghost use Rattle.daggre.specs.Words.{max_sample, asked_of, kept_in, audited_in, size_of};
 ghost use Rattle.daggre.specs.inner.Asking.{asked_as, IsSized};
 
 use crate::ask::Ask;
-use crate::asks::ask_of;
+use crate::asks::{ask_of, is_text};
 use itoa::Buffer;
 
 /// The greatest number of variables of a sample.
@@ -47,10 +47,10 @@ fn asked_by_more<'a>(word: &str, name: &'a str, rest: &[&'a str]) -> Option<Aske
         ≡ asked_of (word.now ∷ name.now ∷ map (λ w. w.now) rest.now) }
     ensures sized { IfSome result IsSized }
 {
-    if is_keep(word) {
+    if is_text(word, "keep") {
         return kept_in(name, rest);
     }
-    if is_audit(word) {
+    if is_text(word, "audit") {
         return audited_in(name, rest);
     }
     match ask_of(word, rest) {
@@ -86,9 +86,9 @@ fn asked_by_two<'a>(word: &str, argument: &'a str) -> Option<Asked<'a>>
     ensures asked { option_map asked_as result ≡ asked_of (word.now ∷ argument.now ∷ []) }
     ensures sized { IfSome result IsSized }
 {
-    if is_run(word) {
+    if is_text(word, "run") {
         Some(Asked::Run { name: argument })
-    } else if is_sample(word) {
+    } else if is_text(word, "sample") {
         match size_named(argument) {
             Some(size) => Some(Asked::Sample { size }),
             None => None,
@@ -102,30 +102,6 @@ fn asked_by_two<'a>(word: &str, argument: &'a str) -> Option<Asked<'a>>
             None => None,
         }
     }
-}
-
-fn is_run(word: &str) -> bool
-    ensures { result ≡ same_text word.now (codes "run") }
-{
-    word == "run"
-}
-
-fn is_keep(word: &str) -> bool
-    ensures { result ≡ same_text word.now (codes "keep") }
-{
-    word == "keep"
-}
-
-fn is_audit(word: &str) -> bool
-    ensures { result ≡ same_text word.now (codes "audit") }
-{
-    word == "audit"
-}
-
-fn is_sample(word: &str) -> bool
-    ensures { result ≡ same_text word.now (codes "sample") }
-{
-    word == "sample"
 }
 
 /// The number of variables that a word gives a sample, if one may have as many.
@@ -145,12 +121,5 @@ fn size_named(word: &str) -> Option<u32>
 fn is_number(number: u32, word: &str) -> bool
     ensures { result ≡ same_text (decimal number) word.now }
 {
-    has_text(word, Buffer::new().format(number))
-}
-
-/// Whether a word has this text.
-fn has_text(word: &str, text: &str) -> bool
-    ensures { result ≡ same_text text.now word.now }
-{
-    text == word
+    is_text(Buffer::new().format(number), word)
 }
