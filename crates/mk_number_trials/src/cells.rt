@@ -186,19 +186,6 @@ fn cell(rt: &impl Abort, parts: Parts) -> Cell
     Cell { digits, exponent }
 }
 
-fn check_pair(rt: &impl Abort, pair: &Pair) {
-    let left = cell(rt, pair.left);
-    let right = cell(rt, pair.right);
-    expect_parts(rt, left.times(right), pair.product);
-    expect_parts(rt, right.times(left), pair.product);
-}
-
-fn check_row(rt: &impl Abort, row: &Row) {
-    check_cells(rt, &row.digits, &row.exponents);
-    expect_parts(rt, sum(&row.digits, &row.exponents), row.sum);
-    expect_parts(rt, least(&row.digits, &row.exponents), row.least);
-}
-
 /// The first places of the products of cells, and the sums of their exponents.
 pub(crate) fn unrounded<const N: usize>(
     left_digits: &[u64; N],
@@ -313,14 +300,19 @@ fn whole_numbers(rt: HostRuntime) {
 #[test]
 fn products_of_two(rt: HostRuntime) {
     for pair in &PAIRS {
-        check_pair(&rt, pair);
+        let left = cell(&rt, pair.left);
+        let right = cell(&rt, pair.right);
+        expect_parts(&rt, left.times(right), pair.product);
+        expect_parts(&rt, right.times(left), pair.product);
     }
 }
 
 #[test]
 fn sums_and_minima(rt: HostRuntime) {
     for row in &ROWS {
-        check_row(&rt, row);
+        check_cells(&rt, &row.digits, &row.exponents);
+        expect_parts(&rt, sum(&row.digits, &row.exponents), row.sum);
+        expect_parts(&rt, least(&row.digits, &row.exponents), row.least);
     }
 }
 

@@ -11,12 +11,13 @@ use std::process::Abort;
 /// The ends of an interval, each a mantissa and an exponent.
 type Ends = (enclosures::Parts, enclosures::Parts);
 
+/// The digits and the exponents of three cells.
+type Cells = ([u64; 3], [u32; 3]);
+
 /// Cells and other cells, with what the semirings make of the cells and of the products.
 struct Row {
-    digits: [u64; 3],
-    exponents: [u32; 3],
-    other_digits: [u64; 3],
-    other_exponents: [u32; 3],
+    cells: Cells,
+    others: Cells,
     sum: Parts,
     least: Parts,
     sum_of_products: Parts,
@@ -36,10 +37,8 @@ macro_rules! rows {
     ($($digits:tt $exponents:tt * $other_digits:tt $other_exponents:tt
         = $sum:tt $least:tt, $sum_of_products:tt $least_of_products:tt;)*) => {
         [$(Row {
-            digits: $digits,
-            exponents: $exponents,
-            other_digits: $other_digits,
-            other_exponents: $other_exponents,
+            cells: ($digits, $exponents),
+            others: ($other_digits, $other_exponents),
             sum: $sum,
             least: $least,
             sum_of_products: $sum_of_products,
@@ -50,7 +49,7 @@ macro_rules! rows {
 
 /// Rows of two numbers, with the values of both semirings.
 macro_rules! numbers {
-    ($($left:literal, $right:literal: $sum:tt $least:tt;)*) => {
+    ($($left:tt, $right:tt: $sum:tt $least:tt;)*) => {
         [$(Numbers {
             left: $left,
             right: $right,
@@ -87,21 +86,15 @@ const ROWS: [Row; 7] = rows! {
         = (HALF, BIAS) (HALF, BIAS - 2), (HALF, BIAS) (HALF, BIAS - 2);
 };
 
+const QUARTER: u64 = 1 << 62;
+
 const NUMBERS: [Numbers; 6] = numbers! {
     0, 0: ((0, 0), (0, 0)) ((0, 0), (0, 0));
     0, 5: ((5, 0), (5, 0)) ((5, 0), (5, 0));
-    4611686018427387904, 4611686018427387903:
-        ((9223372036854775807, 0), (9223372036854775807, 0))
-        ((4611686018427387903, 0), (4611686018427387903, 0));
-    4611686018427387904, 4611686018427387904:
-        ((9223372036854775808, 0), (9223372036854775815, 0))
-        ((4611686018427387904, 0), (4611686018427387904, 0));
-    9223372036854775808, 18446744073709551615:
-        ((13835058055282163711, 1), (13835058055282163718, 1))
-        ((9223372036854775808, 0), (9223372036854775815, 0));
-    18446744073709551615, 18446744073709551615:
-        ((18446744073709551615, 1), (9223372036854775811, 2))
-        ((18446744073709551615, 0), (9223372036854775811, 1));
+    QUARTER, (QUARTER - 1): ((HALF - 1, 0), (HALF - 1, 0)) ((QUARTER - 1, 0), (QUARTER - 1, 0));
+    QUARTER, QUARTER: ((HALF, 0), (HALF + 7, 0)) ((QUARTER, 0), (QUARTER, 0));
+    HALF, MOST: ((13835058055282163711, 1), (13835058055282163718, 1)) ((HALF, 0), (HALF + 7, 0));
+    MOST, MOST: ((MOST, 1), (HALF + 3, 2)) ((MOST, 0), (HALF + 3, 1));
 };
 
 fn plus_of<R: Semiring>(a: u64, b: u64) -> R::Value
@@ -168,15 +161,11 @@ fn minima_and_products(rt: HostRuntime) {
 }
 
 fn check_row<R: Semiring>(rt: &impl Abort, row: &Row, plus: Parts, plus_of_products: Parts) {
-    check_cells(rt, &row.digits, &row.exponents);
-    check_cells(rt, &row.other_digits, &row.other_exponents);
-    expect_parts(rt, R::over(&row.digits, &row.exponents), plus);
-    let (places, sums) = unrounded(
-        &row.digits,
-        &row.exponents,
-        &row.other_digits,
-        &row.other_exponents,
-    );
+    let Row { cells, others, .. } = row;
+    check_cells(rt, &cells.0, &cells.1);
+    check_cells(rt, &others.0, &others.1);
+    expect_parts(rt, R::over(&cells.0, &cells.1), plus);
+    let (places, sums) = unrounded(&cells.0, &cells.1, &others.0, &others.1);
     expect_parts(rt, R::over_products(&places, &sums), plus_of_products);
 }
 
