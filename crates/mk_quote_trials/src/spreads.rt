@@ -105,12 +105,15 @@ fn question(rt: &impl Abort, variable: u32, pairs: &[Pair]) -> SpreadQuestion {
     SpreadQuestion::make(variable, condition).expect(rt, "a question")
 }
 
-fn quote_of(rt: &impl Abort, bounds: &SpreadBounds) -> SpreadQuote {
-    SpreadQuote::make(7, question(rt, 0, &[]), 2, bounds)
+/// A quote over some values, for a user with so many trades and bits.
+fn quote_of(rt: &impl Abort, values: &[Value], whole: u64, trades: u32, net: i64) -> SpreadQuote {
+    let bounds = bounds_of(rt, values, whole, trades, net);
+    SpreadQuote::make(7, question(rt, 0, &[]), 2, &bounds)
 }
 
-/// Every interval, and the units of every share.
-fn check(rt: &impl Abort, values: &[Value], quote: &SpreadQuote) {
+/// The same, checked: every interval, and the units of every share.
+fn checked(rt: &impl Abort, values: &[Value], whole: u64, trades: u32, net: i64) -> SpreadQuote {
+    let quote = quote_of(rt, values, whole, trades, net);
     let mut intervals: ArrayVec<(u32, u32), 16> = ArrayVec::new();
     let mut shares: ArrayVec<u32, 16> = ArrayVec::new();
     let mut units: ArrayVec<u64, 16> = ArrayVec::new();
@@ -123,12 +126,12 @@ fn check(rt: &impl Abort, values: &[Value], quote: &SpreadQuote) {
     assert!(rt; printed.as_slice() == intervals.as_slice());
     let judged = quote.judge(shares.as_slice()).expect(rt, "inside");
     assert!(rt; judged.as_slice() == units.as_slice());
+    quote
 }
 
 #[test]
 fn die(rt: HostRuntime) {
-    let quote = quote_of(&rt, &bounds_of(&rt, &DIE, 1_000_000, 0, 1));
-    check(&rt, &DIE, &quote);
+    let quote = checked(&rt, &DIE, 1_000_000, 0, 1);
     assert!(rt; quote.judge(&[166_667, 300_000, 533_333]).is_some());
     assert!(rt; quote.judge(&[166_666, 300_000, 533_334]).is_none());
     assert!(rt; quote.judge(&[100_000, 400_000, 500_000]).is_none());
@@ -138,14 +141,12 @@ fn die(rt: HostRuntime) {
 
 #[test]
 fn sixteen_values(rt: HostRuntime) {
-    let quote = quote_of(&rt, &bounds_of(&rt, &SIXTEEN, WHOLE, 1, 2));
-    check(&rt, &SIXTEEN, &quote);
+    let _ = checked(&rt, &SIXTEEN, WHOLE, 1, 2);
 }
 
 #[test]
 fn gate(rt: HostRuntime) {
-    let quote = quote_of(&rt, &bounds_of(&rt, &GATE, 1_000_000, 0, 1));
-    check(&rt, &GATE, &quote);
+    let quote = checked(&rt, &GATE, 1_000_000, 0, 1);
     assert!(rt; quote.judge(&[249_999, 0, 750_001]).is_none());
     assert!(rt; quote.judge(&[400_000, 1, 599_999]).is_none());
     assert!(rt; quote.impossible_share(&[400_000, 1, 599_999]) == Some(1));
@@ -157,12 +158,12 @@ fn gate(rt: HostRuntime) {
 /// A user who has paid in nothing cannot lower any price, and one who owes can set none.
 #[test]
 fn without_bits(rt: HostRuntime) {
-    let even = quote_of(&rt, &bounds_of(&rt, &DIE, 1_000_000, 0, 0));
+    let even = quote_of(&rt, &DIE, 1_000_000, 0, 0);
     let intervals = even.intervals().expect(&rt, "intervals");
     assert!(rt;
         intervals.as_slice() == &[(333_333, 999_999), (333_333, 999_999), (333_334, 999_999)][..]
     );
-    let owing = quote_of(&rt, &bounds_of(&rt, &DIE, 1_000_000, 0, -2));
+    let owing = quote_of(&rt, &DIE, 1_000_000, 0, -2);
     assert!(rt; owing.intervals().is_none());
     assert!(rt; owing.judge(&[333_333, 333_333, 333_334]).is_none());
 }
