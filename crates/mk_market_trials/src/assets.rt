@@ -8,10 +8,11 @@ ghost use Rattle.mk_tree.specs.Given.{home};
 ghost use Rattle.mk_tree.specs.Held.{IsHeldAt};
 ghost use Rattle.mk_assets.specs.Holdings.{Owns, opening_holding, with_trade, with_deposit, with_withdrawal};
 
-use crate::coin::{Coin, HEADS, TAILS, make_coin};
+use crate::coin::{Coin, make_coin};
 use mk_assets::Assets;
 use mk_enclose::Factor;
 use mk_engine::Engine;
+use mk_fixtures::{HEADS, TAILS};
 use mk_joint::JointEngine;
 use mk_net::{Event, Pair, Question, Ratio};
 use mk_semiring::MinProd;

@@ -1,4 +1,4 @@
-//! A coin: its market file, and its network and tree.
+//! The network and the tree of a coin.
 
 ghost use Rattle.std.specs.Prelude.{◌≡◌, [], length, slice_index, IfOk};
 ghost use Rattle.mk_net.specs.Network.{sizes};
@@ -6,33 +6,12 @@ ghost use Rattle.mk_net.specs.Zeros.{with_zeros};
 ghost use Rattle.mk_tree.specs.Checked.{IsTreeOf};
 
 use mk_file::read_market;
-use mk_net::{Network, Pair};
+use mk_fixtures::COIN;
+use mk_net::Network;
 use mk_tree::Tree;
 use std::alloc::Global;
 use std::process::Abort;
 use std::test::Fail;
-
-pub const COIN: &str = "points_per_bit = 100
-max_trades = 1000
-cliques = [['coin']]
-links = []
-
-[[variable]]
-name = 'coin'
-values = ['heads', 'tails']
-parents = []
-rows = [[500000, 500000]]
-";
-
-pub const HEADS: Pair = Pair {
-    variable: 0,
-    value: 0,
-};
-
-pub const TAILS: Pair = Pair {
-    variable: 0,
-    value: 1,
-};
 
 /// A network of one variable of two values without a share of nothing, and a tree of it.
 #[derive(Drop)]

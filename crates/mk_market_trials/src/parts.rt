@@ -3,10 +3,11 @@
 ghost use Rattle.std.specs.Prelude.{◌≡◌, []};
 ghost use Rattle.mk_tree.specs.Checked.{IsTreeOf};
 
-use crate::coin::{Coin, HEADS, TAILS, make_coin};
+use crate::coin::{Coin, make_coin};
 use mk_assets::Assets;
 use mk_enclose::{Enclosure, Factor};
 use mk_engine::Engine;
+use mk_fixtures::{HEADS, TAILS};
 use mk_history::{Entry, Limits, Payout};
 use mk_joint::JointEngine;
 use mk_names::Name;

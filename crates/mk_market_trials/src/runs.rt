@@ -4,11 +4,11 @@ ghost use Rattle.std.specs.Prelude.{List};
 ghost use Rattle.mk_net.specs.Network.{Variable};
 ghost use Rattle.mk_tree.specs.Given.{GivenTree};
 
-use crate::coin::COIN;
 use arrayvec::ArrayString;
-use mk_command::{CommandRef, Words, read_command};
+use mk_command::{Words, read_command};
 use mk_engine::Engine;
 use mk_file::read_market;
+use mk_fixtures::{COIN, GATE};
 use mk_market::Market;
 use mk_reply::{Reply, print_reply};
 use mk_semiring::{MinProd, SumProd};
@@ -28,20 +28,6 @@ deposit alice 1001 -> refused range 1001
 user bob -> user bob at 3
 price coin=heads -> price 0.5000000000..0.5000000000
 price coin=edge -> refused name coin=edge";
-
-/// A gate with three values, of which one cannot come.
-const GATE: &str = "points_per_bit = 100
-max_trades = 1000
-zeros = true
-cliques = [['gate']]
-links = []
-
-[[variable]]
-name = 'gate'
-values = ['open', 'shut', 'gone']
-parents = []
-rows = [[250000, 750000, 0]]
-";
 
 /// What cannot come is priced, refused and left out of spreads; the bound is asked before and behind.
 const GATE_RUN: &str = "bound -> bound 200..200
@@ -79,18 +65,10 @@ const CAUSES: &str = "points_per_bit = 100
 max_trades = 1000
 cliques = [['burglary', 'earthquake']]
 links = []
-
-[[variable]]
-name = 'burglary'
-values = ['yes', 'no']
-parents = []
-rows = [[1000, 999000]]
-
-[[variable]]
-name = 'earthquake'
-values = ['yes', 'no']
-parents = []
-rows = [[2000, 998000]]
+variable = [
+{name = 'burglary', values = ['yes', 'no'], parents = [], rows = [[1000, 999000]]},
+{name = 'earthquake', values = ['yes', 'no'], parents = [], rows = [[2000, 998000]]},
+]
 ";
 
 /// The alarm and two neighbours are added; prices are those of the network with all five.
@@ -117,23 +95,7 @@ fn expect_printed(rt: &impl Abort, reply: &Reply, line: &str, expected: &str) {
     assert_eq!(rt; text.as_str(), expected, "to {line}");
 }
 
-/// Applies a command, and stops unless this is its reply.
-fn expect_answer<P: Engine<SumProd>, A: Engine<MinProd>>(
-    rt: &impl Abort,
-    alloc: Global,
-    market: &mut Market<P, A>,
-    command: &CommandRef,
-    line: &str,
-    expected: &str,
-)
-    requires prices { (network : List Variable) (tree : GivenTree) → P.suits network tree }
-    requires assets { (network : List Variable) (tree : GivenTree) → A.suits network tree }
-{
-    let reply = market.apply(alloc, command);
-    expect_printed(rt, &reply, line, expected);
-}
-
-/// Reads a command from its line, and stops unless this is its reply.
+/// Applies the command of a line, and stops unless this is its reply.
 fn expect_reply<P: Engine<SumProd>, A: Engine<MinProd>>(
     rt: &impl Abort,
     alloc: Global,
@@ -146,7 +108,10 @@ fn expect_reply<P: Engine<SumProd>, A: Engine<MinProd>>(
 {
     let mut words = Words::default();
     match read_command(line.as_bytes(), &mut words) {
-        Ok(command) => expect_answer(rt, alloc, market, &command, line, expected),
+        Ok(command) => {
+            let reply = market.apply(alloc, &command);
+            expect_printed(rt, &reply, line, expected);
+        }
         Err(_) => assert!(rt; false, "{line} is no command"),
     }
 }

@@ -1,7 +1,7 @@
 //! Tallies, and runs over inputs that never fail.
 
-use crate::coin::COIN;
 use mk_file::FileFault;
+use mk_fixtures::COIN;
 use mk_io::{MemorySink, NamedFile, QuietInputs, QuietSink, Sink, Status};
 use mk_session::{LineBuffer, print_reply_line, serve, serve_quiet};
 use mk_tally::{Tally, TallyFault, tally};

@@ -7,7 +7,7 @@ use Rattle.mk_engine.specs.Meaning.{with_known}
 use Rattle.mk_assets.specs.Holdings.{Holding, opening_holding}
 use Rattle.mk_assets.specs.Holdings.{with_trade, with_deposit, with_withdrawal}
 use Rattle.mk_assets.proofs.Learning.{owns_holds, held_further}
-use Rattle.mk_market_trials.specs.declared.coin.TheConstants.{HEADS}
+use Rattle.mk_fixtures.specs.declared.pairs.TheConstants.{HEADS}
 use Rattle.mk_market_trials.specs.declared.assets.TheConstants.{HIT, MISS}
 use Rattle.mk_market_trials.proofs.assets.check_tails.Goals as goal
 
