@@ -22,14 +22,18 @@ fn pair(rt: &impl Abort, variable: &[u8], value: &[u8]) -> PairText {
 }
 
 fn question(target: &PairText, pairs: &[PairText]) -> QuestionText {
+    QuestionText {
+        target: *target,
+        condition: condition(pairs),
+    }
+}
+
+fn condition(pairs: &[PairText]) -> ArrayVec<PairText, 8> {
     let mut condition = ArrayVec::new();
     for pair in pairs {
         let _ = condition.try_push(*pair);
     }
-    QuestionText {
-        target: *target,
-        condition,
-    }
+    condition
 }
 
 fn both_ways(rt: &impl Abort, text: &str, command: Command) {
@@ -134,6 +138,24 @@ fn reads_and_prints_what_is_paid(rt: HostRuntime) {
     both_ways(&rt, text, Command::Paid { user });
 }
 
+/// Stops unless an edit by alice is printed as this text, and read from it.
+fn edit(
+    rt: &impl Abort,
+    text: &str,
+    target: &PairText,
+    pairs: &[PairText],
+    to: u32,
+    at: Option<u32>,
+) {
+    let command = Command::Edit {
+        user: name(rt, b"alice"),
+        question: question(target, pairs),
+        to,
+        at,
+    };
+    both_ways(rt, text, command);
+}
+
 #[test]
 fn reads_and_prints_questions(rt: HostRuntime) {
     let user = name(&rt, b"alice");
@@ -156,32 +178,10 @@ fn reads_and_prints_questions(rt: HostRuntime) {
         question: limited,
     };
     both_ways(&rt, "limits alice rain=yes | coin=heads", command);
-    let (to, at) = (500_000, None);
-    let edited = question(&coin, &[]);
-    let command = Command::Edit {
-        user,
-        question: edited,
-        to,
-        at,
-    };
-    both_ways(&rt, "edit alice coin=heads to 500000", command);
-    let (to, at) = (0, Some(0));
-    let edited = question(&rain, &pairs);
-    let command = Command::Edit {
-        user,
-        question: edited,
-        to,
-        at,
-    };
-    both_ways(&rt, "edit alice rain=yes | coin=heads to 0 at 0", command);
-}
-
-fn condition(pairs: &[PairText]) -> ArrayVec<PairText, 8> {
-    let mut condition = ArrayVec::new();
-    for pair in pairs {
-        let _ = condition.try_push(*pair);
-    }
-    condition
+    let text = "edit alice coin=heads to 500000";
+    edit(&rt, text, &coin, &[], 500_000, None);
+    let text = "edit alice rain=yes | coin=heads to 0 at 0";
+    edit(&rt, text, &rain, &pairs, 0, Some(0));
 }
 
 fn numbers(list: &[u32]) -> ArrayVec<u32, 16> {
@@ -277,16 +277,22 @@ fn row(rt: &impl Abort, first: u32, second: u32) -> Row {
     }
 }
 
-#[test]
-fn reads_and_prints_added_questions(rt: HostRuntime) {
+/// A question of two values, linked to a clique, without rows and without a clique of its own.
+fn addition(rt: &impl Abort, variable: &[u8], values: [&[u8]; 2], link: u32) -> AddText {
     let mut addition = AddText {
-        variable: name(&rt, b"add"),
-        link: 1,
+        variable: name(rt, variable),
+        link,
         ..AddText::default()
     };
-    for value in [b"yes" as &[u8], b"no"] {
-        let _ = addition.values.try_push(name(&rt, value));
+    for value in values {
+        let _ = addition.values.try_push(name(rt, value));
     }
+    addition
+}
+
+#[test]
+fn reads_and_prints_added_questions(rt: HostRuntime) {
+    let mut addition = addition(&rt, b"add", [b"yes", b"no"], 1);
     let _ = addition.rows.try_push(row(&rt, 1, 999_999));
     let _ = addition.clique.try_push(name(&rt, b"add"));
     let text = "add add=yes,no : 1 999999 in add to 1";
@@ -295,13 +301,9 @@ fn reads_and_prints_added_questions(rt: HostRuntime) {
 
 #[test]
 fn reads_and_prints_added_questions_with_parents(rt: HostRuntime) {
-    let mut addition = AddText {
-        variable: name(&rt, b"in"),
-        link: 999_999_999,
-        ..AddText::default()
-    };
-    for word in [b"to" as &[u8], b"in"] {
-        let _ = addition.values.try_push(name(&rt, word));
+    let words: [&[u8]; 2] = [b"to", b"in"];
+    let mut addition = addition(&rt, b"in", words, 999_999_999);
+    for word in words {
         let _ = addition.clique.try_push(name(&rt, word));
         let _ = addition.rows.try_push(row(&rt, 999_999_999, 0));
     }
@@ -310,44 +312,33 @@ fn reads_and_prints_added_questions_with_parents(rt: HostRuntime) {
     both_ways(&rt, text, Command::Add { addition });
 }
 
-#[test]
-fn reads_and_prints_the_longest_position(rt: HostRuntime) {
-    let user = name(&rt, LONGEST_NAME);
-    let pair = PairText {
-        variable: user,
-        value: user,
-    };
-    let pairs = [pair; 8];
-    let command = Command::Position {
-        user,
-        variable: user,
-        condition: condition(&pairs),
-    };
+/// Stops unless a command is printed as a text of this length, and read from it.
+fn expect_length(rt: &impl Abort, length: usize, command: Command) {
+    assert!(rt; has_short_numbers(&command));
     let mut text = ArrayString::new();
     print_command(&command, &mut text);
-    assert_eq!(rt; text.len(), 611);
-    both_ways(&rt, text.as_str(), command);
+    assert_eq!(rt; text.len(), length);
+    both_ways(rt, text.as_str(), command);
 }
 
 #[test]
 fn reads_and_prints_the_longest(rt: HostRuntime) {
     let user = name(&rt, LONGEST_NAME);
-    let target = PairText {
-        variable: user,
-        value: user,
-    };
-    let pairs = [target; 8];
-    let asked = question(&target, &pairs);
-    let command = Command::Edit {
+    let pair = pair(&rt, LONGEST_NAME, LONGEST_NAME);
+    let pairs = [pair; 8];
+    let position = Command::Position {
         user,
-        question: asked,
+        variable: user,
+        condition: condition(&pairs),
+    };
+    expect_length(&rt, 611, position);
+    let edit = Command::Edit {
+        user,
+        question: question(&pair, &pairs),
         to: 999_999_999,
         at: Some(999_999_999),
     };
-    let mut text = ArrayString::new();
-    print_command(&command, &mut text);
-    assert_eq!(rt; text.len(), 666);
-    both_ways(&rt, text.as_str(), command);
+    expect_length(&rt, 666, edit);
 }
 
 /// Texts that are no commands, each a line: the first is empty, and some end in a space.
