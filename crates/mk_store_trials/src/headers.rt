@@ -16,6 +16,13 @@ const FILES: usize = 1365;
 // more calls than an opening makes
 const CALLS: u64 = 10;
 
+// A header, and at how many calls of a second opening this one is stopped.
+#[derive(Clone, Copy)]
+struct Plan {
+    header: &'static [u8],
+    again: u64,
+}
+
 // A file, and whether an opening of it finds no record.
 #[derive(Drop)]
 struct Known {
@@ -210,15 +217,14 @@ fn expect_moments(
     alloc: Global,
     known: &[Known],
     file: &[u8],
-    header: &[u8],
-    again: u64,
+    plan: Plan,
 ) -> Result<u64, AllocError>
-    requires { 0 < length header.now }
+    requires { 0 < length plan.header.now }
 {
     let mut images = 0u64;
     for first in 0..=CALLS {
-        for second in 0..=again {
-            let left = left_of(rt, alloc, file, header, [first, second])?;
+        for second in 0..=plan.again {
+            let left = left_of(rt, alloc, file, plan.header, [first, second])?;
             images = images.saturating_add(expect_images(rt, known, &left));
             drop(left);
         }
@@ -231,16 +237,15 @@ fn expect_all(
     rt: &impl Abort,
     alloc: Global,
     known: &[Known],
-    header: &[u8],
-    again: u64,
+    plan: Plan,
 ) -> Result<u64, AllocError>
-    requires { 0 < length header.now }
+    requires { 0 < length plan.header.now }
 {
     let mut files = 0u64;
     for it in known {
-        if is_new(&it.file, header) {
+        if is_new(&it.file, plan.header) {
             assert!(rt; it.is_empty);
-            let images = expect_moments(rt, alloc, known, &it.file, header, again)?;
+            let images = expect_moments(rt, alloc, known, &it.file, plan)?;
             assert!(rt; images > 0);
             files = files.saturating_add(1);
         } else {
@@ -253,9 +258,12 @@ fn expect_all(
 // Five files of at most one byte, 84 that begin with 0, and 8 with the header behind another closed gate.
 #[test]
 fn each_moment_of_an_opening_leaves_no_record(rt: HostRuntime) -> Result<(), Fail> {
-    let header = [2, 3, 0];
-    let known = known_of(&rt, rt.alloc(), &header)?;
-    let files = expect_all(&rt, rt.alloc(), &known, &header, 0);
+    let plan = Plan {
+        header: &[2, 3, 0],
+        again: 0,
+    };
+    let known = known_of(&rt, rt.alloc(), plan.header)?;
+    let files = expect_all(&rt, rt.alloc(), &known, plan);
     drop(known);
     assert_eq!(rt; files?, 97);
     Ok(())
@@ -264,9 +272,12 @@ fn each_moment_of_an_opening_leaves_no_record(rt: HostRuntime) -> Result<(), Fai
 // Five files, 20 and 8; two calls fail.
 #[test]
 fn each_moment_of_two_openings_leaves_no_record(rt: HostRuntime) -> Result<(), Fail> {
-    let header = [2, 0];
-    let known = known_of(&rt, rt.alloc(), &header)?;
-    let files = expect_all(&rt, rt.alloc(), &known, &header, CALLS);
+    let plan = Plan {
+        header: &[2, 0],
+        again: CALLS,
+    };
+    let known = known_of(&rt, rt.alloc(), plan.header)?;
+    let files = expect_all(&rt, rt.alloc(), &known, plan);
     drop(known);
     assert_eq!(rt; files?, 33);
     Ok(())
