@@ -4,7 +4,7 @@ ghost use Rattle.std.specs.Prelude.{◌≡◌, true, All, IfSome};
 ghost use Rattle.mk_text.specs.Numbers.{IsShort};
 ghost use Rattle.mk_command.specs.Commands.{HasShortNumbers};
 
-use crate::names::{expect_none, expect_text, name};
+use crate::texts::{expect_none, expect_text, name};
 use arrayvec::{ArrayString, ArrayVec};
 use mk_addition::{AddText, text_length};
 use mk_command::{Command, CommandRef, Words, print_command, read_command};

@@ -5,8 +5,6 @@
 #[cfg(test)]
 mod commands;
 #[cfg(test)]
-mod names;
-#[cfg(test)]
 mod replies;
 #[cfg(test)]
 mod samples;

@@ -1,4 +1,4 @@
-use crate::names::{expect_none, expect_text, name};
+use crate::texts::{expect_none, expect_text, name};
 use arrayvec::{ArrayString, ArrayVec};
 use mk_names::Name;
 use mk_net::PairText;

@@ -1,24 +1,60 @@
-use crate::names::{expect_none, expect_text};
+//! Names, prices, limits and questions, and what all trials of texts expect.
+
 use arrayvec::ArrayString;
+use mk_names::Name;
 use mk_net::QuestionText;
 use mk_text::{Reader, put_condition, put_limits, put_pair, put_price};
 use std::process::Abort;
 
-fn price_both_ways(rt: &impl Abort, price: u64, text: &str) {
-    let read = Reader::new(text.as_bytes()).price();
-    assert!(rt; read == Some(price), "{text}");
-    let mut printed = ArrayString::<31>::new();
-    put_price(&mut printed, price);
-    expect_text(rt, printed.as_str(), text);
+/// The name that these bytes are.
+pub(crate) fn name(rt: &impl Abort, text: &[u8]) -> Name {
+    Name::read(text).expect(rt, "a name")
+}
+
+/// Stops where something was read from a text of nothing.
+pub(crate) fn expect_none(rt: &impl Abort, is_none: bool, text: &str) {
+    assert!(rt; is_none, "{text} is read");
+}
+
+/// Stops unless this text was printed.
+pub(crate) fn expect_text(rt: &impl Abort, printed: &str, text: &str) {
+    assert_eq!(rt; printed, text);
+}
+
+/// Stops unless a text was read as a value, and that was printed as this text.
+fn expect_both_ways(rt: &impl Abort, is_read: bool, printed: &str, text: &str) {
+    assert!(rt; is_read, "{text}");
+    expect_text(rt, printed, text);
 }
 
 #[test]
 fn reads_and_prints_prices(rt: HostRuntime) {
-    price_both_ways(&rt, 0, "0.0000000000");
-    price_both_ways(&rt, 1, "0.0000000001");
-    price_both_ways(&rt, 3_333_333_334, "0.3333333334");
-    price_both_ways(&rt, 9_999_999_999, "0.9999999999");
-    price_both_ways(&rt, 10_000_000_000, "1.0000000000");
+    for (price, text) in [
+        (0, "0.0000000000"),
+        (1, "0.0000000001"),
+        (3_333_333_334, "0.3333333334"),
+        (9_999_999_999, "0.9999999999"),
+        (10_000_000_000, "1.0000000000"),
+    ] {
+        let read = Reader::new(text.as_bytes()).price();
+        let mut printed = ArrayString::<31>::new();
+        put_price(&mut printed, price);
+        expect_both_ways(&rt, read == Some(price), printed.as_str(), text);
+    }
+}
+
+#[test]
+fn reads_and_prints_limits(rt: HostRuntime) {
+    for (limits, text) in [
+        (None, "none"),
+        (Some((1, 999_999)), "1..999999"),
+        (Some((500_000, 500_000)), "500000..500000"),
+    ] {
+        let read = Reader::new(text.as_bytes()).limits();
+        let mut printed = ArrayString::<42>::new();
+        put_limits(&mut printed, limits);
+        expect_both_ways(&rt, read == Some(limits), printed.as_str(), text);
+    }
 }
 
 /// Texts that are no prices.
@@ -37,21 +73,6 @@ fn reads_no_other_prices(rt: HostRuntime) {
         let price = Reader::new(text.as_bytes()).price();
         expect_none(&rt, price.is_none(), text);
     }
-}
-
-fn limits_both_ways(rt: &impl Abort, limits: Option<(u32, u32)>, text: &str) {
-    let read = Reader::new(text.as_bytes()).limits();
-    assert!(rt; read == Some(limits), "{text}");
-    let mut printed = ArrayString::<42>::new();
-    put_limits(&mut printed, limits);
-    expect_text(rt, printed.as_str(), text);
-}
-
-#[test]
-fn reads_and_prints_limits(rt: HostRuntime) {
-    limits_both_ways(&rt, None, "none");
-    limits_both_ways(&rt, Some((1, 999_999)), "1..999999");
-    limits_both_ways(&rt, Some((500_000, 500_000)), "500000..500000");
 }
 
 /// Texts that are no limits.
