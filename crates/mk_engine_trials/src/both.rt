@@ -31,25 +31,18 @@ struct Past {
     known: Vec<Pair>,
 }
 
+/// The belief in an event; none is absent.
+type Belief = Result<Option<u128>, NoMemory>;
+
 /// A plain walk that finds what beliefs over a semiring are.
 trait Walked {
-    /// The belief in an event; none is absent. The rows of all variables count, or none of them.
-    fn walked(
-        alloc: Global,
-        net: &Network,
-        past: &Past,
-        event: &[Pair],
-    ) -> Result<Option<u128>, NoMemory>;
+    /// The rows of all variables count, or none of them.
+    fn walked(alloc: Global, net: &Network, past: &Past, event: &[Pair]) -> Belief;
 }
 
 /// Sums count the rows.
 impl Walked for SumProd {
-    fn walked(
-        alloc: Global,
-        net: &Network,
-        past: &Past,
-        event: &[Pair],
-    ) -> Result<Option<u128>, NoMemory> {
+    fn walked(alloc: Global, net: &Network, past: &Past, event: &[Pair]) -> Belief {
         let found = total(alloc, net, &past.trades, &past.known, event)?;
         Ok(if found == 0 { None } else { Some(found) })
     }
@@ -57,12 +50,7 @@ impl Walked for SumProd {
 
 /// Minima are of trades alone.
 impl Walked for MinProd {
-    fn walked(
-        alloc: Global,
-        net: &Network,
-        past: &Past,
-        event: &[Pair],
-    ) -> Result<Option<u128>, NoMemory> {
+    fn walked(alloc: Global, net: &Network, past: &Past, event: &[Pair]) -> Belief {
         least_gain(alloc, net, &past.trades, 0, &past.known, event)
     }
 }
@@ -139,14 +127,12 @@ fn check_each<R: Semiring<Value = Held>, E: Engine<R>>(
 }
 
 /// A comparison of an engine with the walk over a file's network: of how many variables the engine
-/// is told the rows, the changes that both are told in turn then, from how many things told on
-/// beliefs are compared, and what both are asked of.
+/// is told the rows, the changes that both are told in turn then, and what both are asked of.
 #[derive(Clone, Copy)]
 struct Comparison<'a> {
     file: &'a MarketFile,
     rows: u32,
     changes: &'a [Change],
-    from: u32,
     asked: &'a [About],
 }
 
@@ -171,8 +157,8 @@ fn check_all<R: Semiring<Value = Held> + Walked, E: Engine<R>>(
     Ok(())
 }
 
-/// Tells an engine each change, and compares its beliefs before each from one on, and behind the
-/// last.
+/// Tells an engine each change, and compares its beliefs before each, and behind the last. Where it
+/// was told no rows, there are none to compare before the supports are told.
 fn tell_all<R: Semiring<Value = Held> + Walked, E: Engine<R>>(
     rt: &impl Abort,
     alloc: Global,
@@ -186,7 +172,7 @@ fn tell_all<R: Semiring<Value = Held> + Walked, E: Engine<R>>(
     let mut before = comparison.rows;
     for change in comparison.changes {
         assert!(rt; before < 100);
-        if before >= comparison.from {
+        if comparison.rows > 0 || !matches!(change, Change::Support(_)) {
             check_all::<R, E>(rt, alloc, engine, comparison, past, before)?;
         }
         tell::<R, E>(rt, engine, file, change, before);
@@ -221,16 +207,16 @@ pub(crate) fn expect_few_states(alloc: Global, net: &Network) -> Result<(), Fail
     Ok(())
 }
 
-/// Pairs that are asked under another, or under none.
-struct Asked(Option<Pair>, &'static [Pair]);
+/// A pair, and others that are asked under it.
+struct Under(Pair, &'static [Pair]);
 
-/// A network with a tree of it, the changes that an engine over it is told, how many of the first
-/// ones are supports, and what it is asked.
+/// A network with a tree of it, the pairs that an engine over it is asked alone, the changes that
+/// it is told, supports first, and what it is asked under a condition.
 struct Sample {
     file: &'static str,
+    alone: &'static [Pair],
     changes: &'static [Change],
-    supports: u32,
-    asked: &'static [Asked],
+    under: &'static [Under],
 }
 
 /// Over joint and tree engines, sums with the rows of all variables before the changes, and minima
@@ -250,16 +236,11 @@ fn follow_both(
         file,
         rows: variables,
         changes,
-        from: variables,
         asked,
     };
     follow::<SumProd, JointEngine<SumProd>>(rt, alloc, &sums)?;
     follow::<SumProd, TreeEngine<SumProd>>(rt, alloc, &sums)?;
-    let minima = Comparison {
-        rows: 0,
-        from: sample.supports,
-        ..sums
-    };
+    let minima = Comparison { rows: 0, ..sums };
     follow::<MinProd, JointEngine<MinProd>>(rt, alloc, &minima)?;
     follow::<MinProd, TreeEngine<MinProd>>(rt, alloc, &minima)?;
     follow::<MinProd, UserEngine>(rt, alloc, &minima)
@@ -274,22 +255,27 @@ fn follow_file(
     requires { IsTreeOf file.now.net file.now.tree }
 {
     expect_few_states(alloc, &file.net)?;
-    let asked = asked_of(alloc, sample.asked)?;
+    let asked = asked_of(alloc, sample)?;
     follow_both(rt, alloc, file, sample, &asked)
 }
 
 /// Each pair that is asked, with the one that it is asked under.
-fn asked_of(alloc: Global, lists: &[Asked]) -> Result<Vec<About>, AllocError> {
+fn asked_of(alloc: Global, sample: &Sample) -> Result<Vec<About>, AllocError> {
     let mut asked = Vec::new(alloc);
-    for list in lists {
-        push_each(&mut asked, list)?;
+    push_each(&mut asked, sample.alone, None)?;
+    for under in sample.under {
+        push_each(&mut asked, under.1, Some(under.0))?;
     }
     Ok(asked)
 }
 
-fn push_each(asked: &mut Vec<About>, list: &Asked) -> Result<(), AllocError> {
-    for pair in list.1 {
-        asked.push(About(*pair, list.0))?;
+fn push_each(
+    asked: &mut Vec<About>,
+    pairs: &[Pair],
+    condition: Option<Pair>,
+) -> Result<(), AllocError> {
+    for pair in pairs {
+        asked.push(About(*pair, condition))?;
     }
     Ok(())
 }
@@ -302,21 +288,18 @@ fn follow_sample(rt: &impl Abort, alloc: Global, sample: &Sample) -> Result<(), 
 /// A trade on rain in a wet season from 70 to 80 in a hundred, and then a dry season.
 const IN_WEATHER: Sample = Sample {
     file: WEATHER,
+    alone: &[A, B, NOT_A, NOT_B],
     changes: &[
         Change::Traded(About(B, Some(A)), 1256584717458, 733007751850),
         Change::Known(NOT_A),
     ],
-    supports: 0,
-    asked: &[
-        Asked(None, &[A, B, NOT_A, NOT_B]),
-        Asked(Some(A), &[B]),
-        Asked(Some(NOT_A), &[B]),
-    ],
+    under: &[Under(A, &[B]), Under(NOT_A, &[B])],
 };
 
 /// Trades and known pairs at each end of the chain.
 const ALONG_CHAIN: Sample = Sample {
     file: CHAIN,
+    alone: &[A, B, C],
     changes: &[
         Change::Traded(About(C, Some(B)), 733007751850, 1256584717458),
         Change::Traded(About(A, None), 2, 3),
@@ -324,13 +307,7 @@ const ALONG_CHAIN: Sample = Sample {
         Change::Known(C),
         Change::Known(NOT_A),
     ],
-    supports: 0,
-    asked: &[
-        Asked(None, &[A, B, C]),
-        Asked(Some(B), &[A, C]),
-        Asked(Some(NOT_A), &[B]),
-        Asked(Some(NOT_B), &[C]),
-    ],
+    under: &[Under(B, &[A, C]), Under(NOT_A, &[B]), Under(NOT_B, &[C])],
 };
 
 /// A star: the clique {a, b} amid {a, c}, {b, d} and {b}, where b has three values.
@@ -351,6 +328,7 @@ variable = [
 /// Trades and known pairs in the middle of the star and at its ends.
 const IN_STAR: Sample = Sample {
     file: STAR,
+    alone: &[A, B, C, D],
     changes: &[
         Change::Traded(About(C, Some(A)), 1256584717458, 733007751850),
         Change::Traded(About(D, None), 3, 2),
@@ -358,13 +336,11 @@ const IN_STAR: Sample = Sample {
         Change::Traded(About(B, None), 2, 5),
         Change::Known(NOT_B),
     ],
-    supports: 0,
-    asked: &[
-        Asked(None, &[A, B, C, D]),
-        Asked(Some(A), &[B, C]),
-        Asked(Some(NOT_A), &[C]),
-        Asked(Some(B), &[D]),
-        Asked(Some(NOT_B), &[D]),
+    under: &[
+        Under(A, &[B, C]),
+        Under(NOT_A, &[C]),
+        Under(B, &[D]),
+        Under(NOT_B, &[D]),
     ],
 };
 
@@ -385,6 +361,7 @@ variable = [
 /// A user's engine keeps two trades in groups apart, and goes over to its tree at the third, which would join 81 assignments.
 const IN_NINES: Sample = Sample {
     file: NINES,
+    alone: &[A, B, C, NOT_C],
     changes: &[
         Change::Traded(About(C, None), 2, 7),
         Change::Traded(About(B, None), 3, 5),
@@ -392,12 +369,10 @@ const IN_NINES: Sample = Sample {
         Change::Traded(About(A, Some(B)), 733007751850, 1256584717458),
         Change::Known(NOT_A),
     ],
-    supports: 0,
-    asked: &[
-        Asked(None, &[A, B, C, NOT_C]),
-        Asked(Some(B), &[A, C]),
-        Asked(Some(NOT_A), &[B]),
-        Asked(Some(NOT_B), &[NOT_C]),
+    under: &[
+        Under(B, &[A, C]),
+        Under(NOT_A, &[B]),
+        Under(NOT_B, &[NOT_C]),
     ],
 };
 
@@ -418,6 +393,7 @@ variable = [
 /// Trades where some states cannot come, before and after a known pair beside which another cannot.
 const AT_GATES: Sample = Sample {
     file: GATES,
+    alone: &[A, B, C, NOT_B],
     changes: &[
         Change::Support(1),
         Change::Support(2),
@@ -426,13 +402,11 @@ const AT_GATES: Sample = Sample {
         Change::Known(NOT_B),
         Change::Traded(About(C, None), 2, 5),
     ],
-    supports: 2,
-    asked: &[
-        Asked(None, &[A, B, C, NOT_B]),
-        Asked(Some(A), &[NOT_B]),
-        Asked(Some(B), &[C]),
-        Asked(Some(NOT_B), &[C]),
-        Asked(Some(NOT_A), &[B]),
+    under: &[
+        Under(A, &[NOT_B]),
+        Under(B, &[C]),
+        Under(NOT_B, &[C]),
+        Under(NOT_A, &[B]),
     ],
 };
 

@@ -58,26 +58,31 @@ const LAST: u32 = 19;
 /// An edit in a clique, a price in another, and three numbers of messages. The first is what the
 /// price's part makes in its own clique. What it is a part of makes none there. It makes the second
 /// where a condition is asked in its home, and the third where all states are asked in the first.
+#[derive(Clone, Copy)]
 struct Behind(u32, u32, u64, u64, u64);
 
-/// As many separators lie between two cliques as their numbers are apart. A condition is on the
-/// first day of its clique; beyond the first clique its home is the clique before, and the way
-/// there from an edit that is not earlier is one message longer. The way from an edit to the first
-/// clique leaves the way to the price in the earlier of the two.
-const PRICES: &[Behind] = &[
-    Behind(1, 19, 18, 0, 0),
-    Behind(2, 19, 17, 0, 1),
-    Behind(10, 19, 9, 0, 9),
-    Behind(18, 19, 1, 0, 17),
-    Behind(19, 19, 0, 1, 18),
-    Behind(19, 18, 1, 1, 17),
-    Behind(19, 2, 17, 1, 1),
-    Behind(19, 1, 18, 0, 0),
-    Behind(7, 12, 5, 0, 6),
-    Behind(12, 7, 5, 1, 6),
-    Behind(10, 10, 0, 1, 9),
-    Behind(1, 1, 0, 0, 0),
+/// Two cliques, the earlier one first, how many separators lie between them, and how many between
+/// the first clique and the earlier one. The way from an edit to the first clique leaves the way to
+/// the price in the earlier of the two.
+struct Cliques(u32, u32, u64, u64);
+
+const CLIQUES: &[Cliques] = &[
+    Cliques(1, 19, 18, 0),
+    Cliques(2, 19, 17, 1),
+    Cliques(10, 19, 9, 9),
+    Cliques(18, 19, 1, 17),
+    Cliques(19, 19, 0, 18),
+    Cliques(7, 12, 5, 6),
+    Cliques(10, 10, 0, 9),
+    Cliques(1, 1, 0, 0),
 ];
+
+/// A condition is on the first day of its clique; beyond the first clique its home is the clique
+/// before, and the way there from an edit that is not earlier is one message longer.
+fn price_behind(edited: u32, at: u32, between: u64, in_first: u64) -> Behind {
+    let in_home = if 1 < at && at <= edited { 1 } else { 0 };
+    Behind(edited, at, between, in_home, in_first)
+}
 
 /// A belief that is asked: an event, the clique, and how many messages it is to make.
 #[derive(Clone, Copy)]
@@ -108,21 +113,21 @@ fn expect_made(
     rt: &impl Abort,
     engine: &mut TreeEngine<SumProd>,
     file: &MarketFile,
-    asked: &Asked,
+    asked: Asked,
     before: u32,
 )
     requires used { IsInUse ⟦<TreeEngine<SumProd> as Engine<SumProd>>⟧.stands_for
         engine.old file.now before }
-    requires own { AllByRecursion (IsPairOf file.now.net) asked.now.event }
+    requires own { AllByRecursion (IsPairOf file.now.net) asked.event }
     ensures { IsInUse ⟦<TreeEngine<SumProd> as Engine<SumProd>>⟧.stands_for
         engine.new file.now before }
 {
     let Asked { event, at, makes } = asked;
-    expect_held(rt, &file.tree, *at, event);
-    assert!(rt; engine.stale_towards(*at) == *makes);
+    expect_held(rt, &file.tree, at, &event);
+    assert!(rt; engine.stale_towards(at) == makes);
     let begun = engine.computed();
-    let _ = ask_in(engine, file, *at, event, before);
-    assert!(rt; engine.computed().checked_sub(begun) == Some(*makes));
+    let _ = ask_in(engine, file, at, &event, before);
+    assert!(rt; engine.computed().checked_sub(begun) == Some(makes));
 }
 
 /// Makes all messages: those towards each end of the chain.
@@ -195,16 +200,16 @@ fn expect_price(
         makes: 0,
     };
     edit(rt, engine, file, price.edited, before);
-    expect_made(rt, engine, file, &price.part, before + 1);
-    expect_made(rt, engine, file, &whole, before + 1);
+    expect_made(rt, engine, file, price.part, before + 1);
+    expect_made(rt, engine, file, whole, before + 1);
     let whole = Asked {
         event,
         at: price.elsewhere,
         makes: price.makes,
     };
     edit(rt, engine, file, price.edited, before + 1);
-    expect_made(rt, engine, file, &price.part, before + 2);
-    expect_made(rt, engine, file, &whole, before + 2);
+    expect_made(rt, engine, file, price.part, before + 2);
+    expect_made(rt, engine, file, whole, before + 2);
 }
 
 /// The price of a day under the day before, whose condition has a home of its own.
@@ -244,15 +249,26 @@ fn under_none(rt: &impl Abort, file: &MarketFile, row: &Behind) -> Price
     }
 }
 
-/// The prices of each row, in engines of their own.
-fn check_rows(rt: &impl Abort, alloc: Global, file: &MarketFile) -> Result<(), Fail>
+/// The prices behind an edit, in an engine of their own.
+fn check_prices(rt: &impl Abort, alloc: Global, file: &MarketFile, row: &Behind) -> Result<(), Fail>
     requires { IsTreeOf file.now.net file.now.tree }
 {
-    for row in PRICES {
-        let mut engine = start::<SumProd, TreeEngine<SumProd>>(alloc, file)?;
-        tell_rows(rt, &mut engine, file, 20);
-        expect_price(rt, &mut engine, file, &under_day(rt, file, row), 20);
-        expect_price(rt, &mut engine, file, &under_none(rt, file, row), 22);
+    let mut engine = start::<SumProd, TreeEngine<SumProd>>(alloc, file)?;
+    tell_rows(rt, &mut engine, file, 20);
+    expect_price(rt, &mut engine, file, &under_day(rt, file, row), 20);
+    expect_price(rt, &mut engine, file, &under_none(rt, file, row), 22);
+    Ok(())
+}
+
+/// Edits and prices in two cliques each, both ways.
+fn check_cliques(rt: &impl Abort, alloc: Global, file: &MarketFile) -> Result<(), Fail>
+    requires { IsTreeOf file.now.net file.now.tree }
+{
+    for Cliques(earlier, later, between, before) in CLIQUES {
+        let forth = price_behind(*earlier, *later, *between, *before);
+        check_prices(rt, alloc, file, &forth)?;
+        let back = price_behind(*later, *earlier, *between, *before);
+        check_prices(rt, alloc, file, &back)?;
     }
     Ok(())
 }
@@ -260,5 +276,5 @@ fn check_rows(rt: &impl Abort, alloc: Global, file: &MarketFile) -> Result<(), F
 #[test]
 fn prices_behind_edits(rt: HostRuntime) -> Result<(), Fail> {
     let file = read_market(rt.alloc(), DAYS.as_bytes())?;
-    check_rows(&rt, rt.alloc(), &file)
+    check_cliques(&rt, rt.alloc(), &file)
 }

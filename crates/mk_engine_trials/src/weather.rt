@@ -94,7 +94,7 @@ fn check_dry<R: Semiring<Value = Held>, E: Engine<R>>(
     rt: &impl Abort,
     engine: &mut E,
     file: &MarketFile,
-    known: &Known,
+    dry: Exact,
 )
     requires { IsInUse E.stands_for engine.old file.now 0 }
 {
@@ -102,30 +102,13 @@ fn check_dry<R: Semiring<Value = Held>, E: Engine<R>>(
     tell::<R, E>(rt, engine, file, &TRADE, 2);
     let dry_rain = event(rt, &file.net, &About(B, Some(NOT_A)));
     expect::<R, E>(rt, engine, file, &dry_rain, 3, DRY_RAIN);
-    expect::<R, E>(
-        rt,
-        engine,
-        file,
-        &event(rt, &file.net, &About(NOT_A, None)),
-        3,
-        known.dry,
-    );
-    expect_rounded::<R, E>(
-        rt,
-        engine,
-        file,
-        &event(rt, &file.net, &About(B, Some(A))),
-        3,
-    );
+    let dry_season = event(rt, &file.net, &About(NOT_A, None));
+    expect::<R, E>(rt, engine, file, &dry_season, 3, dry);
+    let wet_rain = event(rt, &file.net, &About(B, Some(A)));
+    expect_rounded::<R, E>(rt, engine, file, &wet_rain, 3);
     tell::<R, E>(rt, engine, file, &Change::Known(NOT_A), 3);
-    expect::<R, E>(
-        rt,
-        engine,
-        file,
-        &event(rt, &file.net, &About(B, None)),
-        4,
-        DRY_RAIN,
-    );
+    let rain = event(rt, &file.net, &About(B, None));
+    expect::<R, E>(rt, engine, file, &rain, 4, DRY_RAIN);
 }
 
 /// Both with engines that were told nothing.
@@ -139,7 +122,7 @@ fn check_engine<R: Semiring<Value = Held>, E: Engine<R>>(
     requires suits { E.suits file.now.net file.now.tree }
 {
     check_wet::<R, E>(rt, &mut start::<R, E>(alloc, file)?, file, known);
-    check_dry::<R, E>(rt, &mut start::<R, E>(alloc, file)?, file, known);
+    check_dry::<R, E>(rt, &mut start::<R, E>(alloc, file)?, file, known.dry);
     Ok(())
 }
 
