@@ -1,8 +1,14 @@
 -- What the trials keep of a flow.
-use Rattle.std.specs.Prelude.{◌≡◌, ℕ, List, length}
+use Rattle.std.specs.Prelude.{◌≡◌, ℕ, Bool, List, length}
+use Rattle.std.specs.List.{list_all}
 use Rattle.mk_net.specs.Network.{Variable}
+use Rattle.mk_sets.specs.Sets.{VarSet, is_member}
 use Rattle.mk_propagate.specs.Placings.{Placing}
 use Rattle.mk_propagate.specs.Flows.{FlowOf, HasPlaced, AreRightTowards, AreRightInto}
+
+-- a set has each of some variables
+abbrev pub has_all : VarSet → List ℕ → Bool
+has_all set variables = list_all (is_member set) variables
 
 -- so many factors of a network are placed
 pub record HasSome (plus : ℕ → ℕ → ℕ) (flow : FlowOf) (network : List Variable) (count : ℕ) : Type 0 where

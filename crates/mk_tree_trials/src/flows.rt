@@ -1,15 +1,13 @@
 //! Messages and beliefs on a chain of three variables, by numbers worked out by hand.
 
 ghost use Rattle.std.specs.Prelude.{◌≡◌, ℕ, ◌+◌, ◌<◌, [], ◌∷◌, List, length, IfOk};
-ghost use Rattle.std.specs.List.{list_all};
 ghost use Rattle.mk_net.specs.Network.{Variable};
-ghost use Rattle.mk_sets.specs.Sets.{is_member};
 ghost use Rattle.mk_net.specs.Trades.{trade_ratio};
 ghost use Rattle.mk_tree.specs.Given.{clique_at};
 ghost use Rattle.mk_tree.specs.Checked.{IsTreeOf};
 ghost use Rattle.mk_tree.specs.Tests.{holds_family};
 ghost use Rattle.mk_plan.specs.Shapes.{IsShapeFor, IsClique};
-ghost use Rattle.mk_tree_trials.specs.Placed.{HasSome, IsCollected, IsReady, KeepsReady};
+ghost use Rattle.mk_tree_trials.specs.Placed.{has_all, HasSome, IsCollected, IsReady, KeepsReady};
 
 use mk_file::MarketFile;
 use mk_fixtures::{B, C, holds_event};
@@ -26,7 +24,7 @@ use std::test::Fail;
 
 /// Whether a set has each of some variables.
 fn has_all(set: &VarSet, variables: &[u32]) -> bool
-    ensures { result ≡ list_all (is_member set.now) variables.now }
+    ensures { result ≡ has_all set.now variables.now }
 {
     variables.iter().all(|variable| set.has(*variable))
 }
@@ -79,18 +77,21 @@ fn check(rt: &impl Abort, held: &Held, n: u64) {
     assert!(rt; (found.hi().mantissa(), found.hi().exponent()) == (n, 0));
 }
 
-/// Stops unless this is the belief in an event, read in a clique with the messages into it as they are.
+/// An event, and the number of the belief in it.
+type Belief<'a> = (&'a Event, u64);
+
+/// Stops unless a belief is this, read in a clique with the messages into it as they are.
 fn again<R: Semiring<Value = Held>>(
     rt: &impl Abort,
     flow: &mut Flow<R>,
     clique: u32,
-    event: &Event,
-    number: u64,
+    belief: Belief,
 )
     requires { (network : List Variable) × (count : ℕ) × IsReady R.plus_of flow.old network count clique }
     ensures { KeepsReady R.plus_of flow.old flow.new }
 {
     expect_clique(rt, flow.shape(), clique);
+    let (event, number) = belief;
     assert!(rt; holds_event(flow.shape().tree(), clique, event));
     check(rt, &flow.read(clique, event), number);
 }
@@ -113,21 +114,21 @@ fn away<R: Semiring>(rt: &impl Abort, flow: &mut Flow<R>, clique: u32)
     flow.distribute(clique);
 }
 
-/// Stops unless this is the belief in an event, read in a clique after the messages towards it, and after those away from it.
+/// Stops unless a belief is this, read in a clique after the messages towards it, and after those
+/// away from it.
 fn around<R: Semiring<Value = Held>>(
     rt: &impl Abort,
     flow: &mut Flow<R>,
     clique: u32,
-    event: &Event,
-    number: u64,
+    belief: Belief,
 )
     requires { (network : List Variable) × (count : ℕ) × HasSome R.plus_of flow.old network count }
     ensures { (network : List Variable) (count : ℕ) → HasSome R.plus_of flow.old network count → IsReady R.plus_of flow.new network count clique }
 {
     towards(rt, flow, clique);
-    again(rt, flow, clique, event, number);
+    again(rt, flow, clique, belief);
     away(rt, flow, clique);
-    again(rt, flow, clique, event, number);
+    again(rt, flow, clique, belief);
 }
 
 /// A trade on b.
@@ -178,18 +179,20 @@ fn in_first<R: Semiring<Value = Held>>(
     rt: &impl Abort,
     flow: &mut Flow<R>,
     net: &Network,
-    numbers: &[u64; 3],
+    alone: u64,
+    with_b: u64,
+    with_c: u64,
 )
     requires { HasSome R.plus_of flow.old net.now 0 }
 {
     let up = Event::empty().with(B).expect(rt, "a pair");
     place(rt, flow, 1, net, 0, 0);
-    around(rt, flow, 1, &up, numbers[0]);
-    again(rt, flow, 1, &up, numbers[0]);
+    around(rt, flow, 1, (&up, alone));
+    again(rt, flow, 1, (&up, alone));
     place(rt, flow, 1, net, 1, 1);
-    again(rt, flow, 1, &up, numbers[1]);
+    again(rt, flow, 1, (&up, with_b));
     place(rt, flow, 2, net, 2, 2);
-    around(rt, flow, 1, &up, numbers[2]);
+    around(rt, flow, 1, (&up, with_c));
     assert!(rt; flow.computed() == 8);
 }
 
@@ -198,21 +201,22 @@ fn in_second<R: Semiring<Value = Held>>(
     rt: &impl Abort,
     flow: &mut Flow<R>,
     net: &Network,
-    numbers: &[u64; 4],
+    numbers: [u64; 4],
 )
     requires { HasSome R.plus_of flow.old net.now 0 }
 {
+    let [placed, traded, with_c, with_b] = numbers;
     let all = Event::empty();
     place(rt, flow, 1, net, 0, 0);
     place(rt, flow, 1, net, 1, 1);
     place(rt, flow, 2, net, 2, 2);
-    around(rt, flow, 2, &all, numbers[0]);
+    around(rt, flow, 2, (&all, placed));
     multiply(rt, flow, net);
-    again(rt, flow, 2, &all, numbers[1]);
+    again(rt, flow, 2, (&all, traded));
     know(rt, flow, 3, net, C);
-    around(rt, flow, 2, &all, numbers[2]);
+    around(rt, flow, 2, (&all, with_c));
     know(rt, flow, 2, net, B);
-    again(rt, flow, 2, &all, numbers[3]);
+    again(rt, flow, 2, (&all, with_b));
     assert!(rt; flow.computed() == 8);
 }
 
@@ -235,8 +239,16 @@ fn on_shape<R: Semiring<Value = Held>>(
 ) -> Result<(), Fail>
     requires { IsShapeFor shape.now.value net.now }
 {
-    in_first::<R>(rt, &mut start(alloc, net, shape)?, net, &beliefs.first);
-    in_second::<R>(rt, &mut start(alloc, net, shape)?, net, &beliefs.second);
+    let [alone, with_b, with_c] = beliefs.first;
+    in_first::<R>(
+        rt,
+        &mut start(alloc, net, shape)?,
+        net,
+        alone,
+        with_b,
+        with_c,
+    );
+    in_second::<R>(rt, &mut start(alloc, net, shape)?, net, beliefs.second);
     Ok(())
 }
 
