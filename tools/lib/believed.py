@@ -6,7 +6,7 @@ list is not short by mistake.
 import re
 
 WORD = re.compile(r"[A-Za-z_][A-Za-z0-9_'-]*")
-USE = re.compile(r"^\s*(?:ghost |pub )?use Rattle\.([a-z0-9_]+)\.specs\.([A-Za-z0-9_.]+?)\.\{([^}]*)\};?\s*$")
+USE = re.compile(r"^\s*(?:ghost |pub )?use Rattle\.([a-z0-9_]+)\.specs\.((?:\w+\.)*)\{([^}]*)\};?\s*$")
 USE_AS = re.compile(r"^\s*(?:ghost )?use Rattle\.([a-z0-9_]+)\.specs\.([A-Za-z0-9_.]+) as ([A-Za-z0-9_]+);?\s*$")
 RUST_USE = re.compile(r"(?m)^(?:pub )?use ((?:crate|mk_[a-z_]+)(?:::[a-z_]+)*)::(\{[^}]*\}|\w+);")
 NAME = r"(?:◌[^\s◌]+◌|[A-Za-z_][A-Za-z0-9_'-]*)"
@@ -50,9 +50,10 @@ def imports_of(lines):
             continue
         crate, module, names = match.groups()
         for item in names.split(","):
-            parts = item.strip().split(" as ")
-            if parts[0]:
-                found[parts[-1].strip()] = (crate, module, parts[0].strip())
+            path, _, alias = item.strip().partition(" as ")
+            inner, name = re.fullmatch(r"((?:\w+\.)*)(.*)", path.strip()).groups()
+            if name:
+                found[alias.strip() or name] = (crate, (module + inner).rstrip("."), name)
     return found
 
 

@@ -4,8 +4,8 @@ pub use Rattle.mk_io.specs.Stream.{is_not_blank, StreamLine}
 pub use Rattle.mk_known.specs.Known.{IsKnown}
 pub use Rattle.mk_reply.specs.Replies.{IsReply}
 pub use Rattle.mk_rules.specs.Transcript.{OfCommand}
-pub use Rattle.mk_session.specs.Below.{command_of, file_of, fresh, GoesOn, IsAt, IsMarket, IsTreeOf}
-pub use Rattle.mk_session.specs.Below.{Market, market_of, max_stream_lines, opening, Rose, text}
-pub use Rattle.mk_session.specs.Complete.{AreWithin}
-pub use Rattle.mk_session.specs.Outcome.{Adds, HasCauses, IsFrontOf, IsTurnedAway}
-pub use Rattle.mk_session.specs.Transcript.{Asks}
+pub use Rattle.mk_session.specs.{Below.command_of, Below.file_of, Below.fresh, Below.GoesOn}
+pub use Rattle.mk_session.specs.{Below.IsAt, Below.IsMarket, Below.IsTreeOf, Below.Market}
+pub use Rattle.mk_session.specs.{Below.market_of, Below.max_stream_lines, Below.opening, Below.Rose}
+pub use Rattle.mk_session.specs.{Below.text, Complete.AreWithin, Outcome.Adds, Outcome.HasCauses}
+pub use Rattle.mk_session.specs.{Outcome.IsFrontOf, Outcome.IsTurnedAway, Transcript.Asks}

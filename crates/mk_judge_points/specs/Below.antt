@@ -4,7 +4,5 @@ pub use Rattle.mk_cash.specs.Below.{IsGradedWithin, IsInRange, max_points_per_bi
 pub use Rattle.mk_cash.specs.Below.{million, number_limit, sharpness, two_to, upper_of}
 pub use Rattle.mk_enclose.specs.Enclosure.{HasGrade}
 pub use Rattle.mk_exact.specs.Accepted.{Covers, IsMost}
-pub use Rattle.mk_judge.specs.Cash.{IsOwned}
-pub use Rattle.mk_judge.specs.Compared.{AreNear, LeavesOpen, Says}
-pub use Rattle.mk_judge.specs.Judged.{Judges}
-pub use Rattle.mk_judge.specs.Powers.{HasCashRange, StandsBeside}
+pub use Rattle.mk_judge.specs.{Cash.IsOwned, Compared.AreNear, Compared.LeavesOpen, Compared.Says}
+pub use Rattle.mk_judge.specs.{Judged.Judges, Powers.HasCashRange, Powers.StandsBeside}

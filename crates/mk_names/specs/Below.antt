@@ -1,3 +1,2 @@
 -- What clauses of this crate cite of the crates below it.
-pub use Rattle.std.specs.Cmp.{partial_equiv_from_equiv}
-pub use Rattle.std.specs.List.{list_all}
+pub use Rattle.std.specs.{Cmp.partial_equiv_from_equiv, List.list_all}

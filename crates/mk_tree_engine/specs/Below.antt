@@ -1,15 +1,15 @@
 -- What clauses of this crate cite of the crates below it.
-pub use Rattle.std.specs.List.{list_all}
-pub use Rattle.std.specs.Option.{ForSome}
-pub use Rattle.mk_engine.specs.Apart.{IsApart, without_ratios}
-pub use Rattle.mk_engine.specs.Beliefs.{CanBelieve, CanKnow, CanMultiply, CanWeigh, IsBelief}
-pub use Rattle.mk_engine.specs.Below.{GivenTree, home, IsHeldAt, IsTreeOf, number_limit}
-pub use Rattle.mk_engine.specs.Below.{ratio_pairs, trade_ratio, Variable}
-pub use Rattle.mk_engine.specs.Meaning.{Meaning, opening, RatioOf, RowsOf, SupportOf, tree_grade}
-pub use Rattle.mk_engine.specs.Meaning.{whole_sum, with_factor, with_known}
+pub use Rattle.std.specs.{List.list_all, Option.ForSome}
+pub use Rattle.mk_engine.specs.{Apart.IsApart, Apart.without_ratios, Beliefs.CanBelieve}
+pub use Rattle.mk_engine.specs.{Beliefs.CanKnow, Beliefs.CanMultiply, Beliefs.CanWeigh}
+pub use Rattle.mk_engine.specs.{Beliefs.IsBelief, Below.GivenTree, Below.home, Below.IsHeldAt}
+pub use Rattle.mk_engine.specs.{Below.IsTreeOf, Below.number_limit, Below.ratio_pairs}
+pub use Rattle.mk_engine.specs.{Below.trade_ratio, Below.Variable, Meaning.Meaning, Meaning.opening}
+pub use Rattle.mk_engine.specs.{Meaning.RatioOf, Meaning.RowsOf, Meaning.SupportOf}
+pub use Rattle.mk_engine.specs.{Meaning.tree_grade, Meaning.whole_sum, Meaning.with_factor}
+pub use Rattle.mk_engine.specs.{Meaning.with_known}
 pub use Rattle.mk_net.specs.Network.{IsNetwork}
 pub use Rattle.mk_plan.specs.Shapes.{IsClique, next_on_way}
 pub use Rattle.mk_propagate.specs.Flows.{CanSend, counted_on, reading_grade}
 pub use Rattle.mk_sets.specs.Sets.{is_member}
-pub use Rattle.mk_tree.specs.Given.{clique_at}
-pub use Rattle.mk_tree.specs.Tests.{holds_family}
+pub use Rattle.mk_tree.specs.{Given.clique_at, Tests.holds_family}
