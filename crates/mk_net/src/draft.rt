@@ -5,6 +5,7 @@ ghost use Rattle.mk_net.specs.Drafts.{drafts_of, draft_of_variable};
 ghost use Rattle.mk_net.specs.Checked.{count_fault, count_at};
 
 use crate::fault::NetFault;
+use crate::order::Kind;
 use mk_names::Key;
 use mk_names::limits::MAX_VARIABLES;
 
@@ -38,20 +39,13 @@ impl Draft {
                 n: count as i64,
             });
         }
-        let mut place = 0;
-        'variables: for variable in &self.variables {
-            place += 1;
-            if let Some(fault) = variable.count_fault(place) {
-                return Some(fault);
-            }
-        }
-        None
+        self.first_of(Kind::Counts)
     }
 }
 
 impl VariableDraft {
     /// The number of values or of parents that is outside its limits, for the variable of this number.
-    fn count_fault(&self, place: u32) -> Option<NetFault>
+    pub(crate) fn count_fault(&self, place: u32) -> Option<NetFault>
         ensures { result ≡ count_at place (draft_of_variable self.now) }
     {
         let values = self.values.len();

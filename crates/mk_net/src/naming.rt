@@ -4,7 +4,6 @@ ghost use Rattle.std.specs.Prelude.{◌≡◌, ◌<◌, ◌≤◌, length, map, 
 ghost use Rattle.mk_net.specs.Below.{list_all, list_any, same_text};
 ghost use Rattle.mk_names.specs.Name as name;
 ghost use Rattle.mk_net.specs.Drafts.{drafts_of, draft_of_variable};
-ghost use Rattle.mk_net.specs.Firsts.{first_in};
 ghost use Rattle.mk_net.specs.Checked.{is_before, number_of, has_double, name_at, repeat_at, parent_at};
 
 use crate::draft::{Draft, VariableDraft};
@@ -12,53 +11,8 @@ use crate::fault::NetFault;
 use mk_names::is_name;
 
 impl Draft {
-    /// The first variable with a word that is no name.
-    pub(crate) fn name_fault(&self) -> Option<NetFault>
-        requires { length self.now.variables.items ≤ 256 }
-        ensures { result ≡ first_in name_at 1 (drafts_of self.now) }
-    {
-        let mut place = 0;
-        'variables: for variable in &self.variables {
-            place += 1;
-            if let Some(fault) = variable.name_fault(place) {
-                return Some(fault);
-            }
-        }
-        None
-    }
-
-    /// The first variable that repeats a name.
-    pub(crate) fn repeat_fault(&self) -> Option<NetFault>
-        requires { length self.now.variables.items ≤ 256 }
-        ensures { result ≡ first_in (repeat_at (drafts_of self.now)) 1 (drafts_of self.now) }
-    {
-        let mut place = 0;
-        'variables: for variable in &self.variables {
-            place += 1;
-            if let Some(fault) = self.repeat_of(place, variable) {
-                return Some(fault);
-            }
-        }
-        None
-    }
-
-    /// The first variable with a parent that is no earlier variable, or with one twice.
-    pub(crate) fn parent_fault(&self) -> Option<NetFault>
-        requires { length self.now.variables.items ≤ 256 }
-        ensures { result ≡ first_in (parent_at (drafts_of self.now)) 1 (drafts_of self.now) }
-    {
-        let mut place = 0;
-        'variables: for variable in &self.variables {
-            place += 1;
-            if let Some(fault) = self.parent_of(place, variable) {
-                return Some(fault);
-            }
-        }
-        None
-    }
-
     /// Whether the variable of this number repeats a name.
-    fn repeat_of(&self, place: u32, variable: &VariableDraft) -> Option<NetFault>
+    pub(crate) fn repeat_of(&self, place: u32, variable: &VariableDraft) -> Option<NetFault>
         ensures { result ≡ repeat_at (drafts_of self.now) place (draft_of_variable variable.now) }
     {
         if self.is_before(place, &variable.name) || has_double(&variable.values) {
@@ -69,7 +23,7 @@ impl Draft {
     }
 
     /// Whether a parent of the variable of this number is no earlier variable, or stands twice.
-    fn parent_of(&self, place: u32, variable: &VariableDraft) -> Option<NetFault>
+    pub(crate) fn parent_of(&self, place: u32, variable: &VariableDraft) -> Option<NetFault>
         ensures { result ≡ parent_at (drafts_of self.now) place (draft_of_variable variable.now) }
     {
         if self.are_before(place, &variable.parents) && !has_double(&variable.parents) {
@@ -107,7 +61,7 @@ impl Draft {
 
 impl VariableDraft {
     /// Whether its name or one of its values is no name, for the variable of this number.
-    fn name_fault(&self, place: u32) -> Option<NetFault>
+    pub(crate) fn name_fault(&self, place: u32) -> Option<NetFault>
         ensures { result ≡ name_at place (draft_of_variable self.now) }
     {
         if is_name(self.name.as_bytes()) && are_names(&self.values) {

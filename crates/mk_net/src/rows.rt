@@ -1,6 +1,7 @@
 //! The faults of a draft's rows: how many there are, their widths, entries and sums.
 
 ghost use Rattle.std.specs.Prelude.{◌≡◌, ◌≤◌, ◌↔◌, true, length, map, sum, string_bytes, slice_index, All, IsTrue};
+ghost use Rattle.mk_net.specs.Bounds.{max_parents, max_values};
 ghost use Rattle.mk_net.specs.Network.{choices};
 ghost use Rattle.mk_net.specs.Drafts.{drafts_of, draft_of_variable};
 ghost use Rattle.mk_net.specs.Firsts.{first_in};
@@ -24,77 +25,10 @@ impl Draft {
             .all(|variable| variable.rows.len() < 1 << 32)
     }
 
-    /// The first variable with another number of rows than its parents have lists of values.
-    pub(crate) fn rows_fault(&self) -> Option<NetFault>
-        requires few { length self.now.variables.items ≤ 256 }
-        requires counted { All IsCounted self.now.variables.items }
-        ensures { result ≡ first_in (rows_at (drafts_of self.now)) 1 (drafts_of self.now) }
-    {
-        let mut place = 0;
-        'variables: for variable in &self.variables {
-            place += 1;
-            if let Some(fault) = self.rows_of(place, variable) {
-                return Some(fault);
-            }
-        }
-        None
-    }
-
-    /// The first row with another number of entries than its variable has values.
-    pub(crate) fn width_fault(&self) -> Option<NetFault>
-        requires few { length self.now.variables.items ≤ 256 }
-        requires numbered { All IsNumbered self.now.variables.items }
-        ensures { result ≡ first_in width_at 1 (drafts_of self.now) }
-    {
-        let mut place = 0;
-        'variables: for variable in &self.variables {
-            place += 1;
-            if let Some(fault) = variable.width_fault(place) {
-                return Some(fault);
-            }
-        }
-        None
-    }
-
-    /// The first entry that is no share.
-    pub(crate) fn entry_fault(&self) -> Option<NetFault>
-        requires few { length self.now.variables.items ≤ 256 }
-        requires numbered { All IsNumbered self.now.variables.items }
-        requires widths { All HasWidths self.now.variables.items }
-        ensures { result ≡ first_in (entry_at self.now.zeros) 1 (drafts_of self.now) }
-    {
-        let mut place = 0;
-        'variables: for variable in &self.variables {
-            place += 1;
-            if let Some(fault) = variable.entry_fault(self.zeros, place) {
-                return Some(fault);
-            }
-        }
-        None
-    }
-
-    /// The first row whose entries are not a million together.
-    pub(crate) fn sum_fault(&self) -> Option<NetFault>
-        requires few { length self.now.variables.items ≤ 256 }
-        requires numbered { All IsNumbered self.now.variables.items }
-        requires widths { All HasWidths self.now.variables.items }
-        requires shares { All HasShares self.now.variables.items }
-        ensures { result ≡ first_in sum_at 1 (drafts_of self.now) }
-    {
-        let mut place = 0;
-        'variables: for variable in &self.variables {
-            place += 1;
-            if let Some(fault) = variable.sum_fault(place) {
-                return Some(fault);
-            }
-        }
-        None
-    }
-
     /// Whether the variable of this number has another number of rows than its parents have lists of values.
-    fn rows_of(&self, place: u32, variable: &VariableDraft) -> Option<NetFault>
+    pub(crate) fn rows_of(&self, place: u32, variable: &VariableDraft) -> Option<NetFault>
         requires counted { All IsCounted self.now.variables.items }
-        requires few_parents { length variable.now.parents.items ≤ 8 }
+        requires few_parents { length variable.now.parents.items ≤ max_parents }
         ensures { result ≡ rows_at (drafts_of self.now) place (draft_of_variable variable.now) }
     {
         let rows = variable.rows.len();
@@ -111,7 +45,7 @@ impl Draft {
     /// How many lists of values the variables of these names have together.
     fn choices(&self, names: &[String]) -> u64
         requires counted { All IsCounted self.now.variables.items }
-        requires few { length names.now ≤ 8 }
+        requires few { length names.now ≤ max_parents }
         ensures { result ≡ choices (counts (drafts_of self.now)) (map (number_of (drafts_of self.now)) (map string_bytes names.now)) }
     {
         let mut choices = 1;
@@ -125,7 +59,7 @@ impl Draft {
     fn values_of(&self, name: &str) -> u64
         requires { All IsCounted self.now.variables.items }
         ensures count { result ≡ slice_index (counts (drafts_of self.now)) (number_of (drafts_of self.now) name.now) }
-        ensures few { result ≤ 16 }
+        ensures few { result ≤ max_values }
     {
         match self.variables.get(self.number_of(name)) {
             Some(variable) => variable.values.len() as u64,
@@ -136,7 +70,7 @@ impl Draft {
 
 impl VariableDraft {
     /// The first row with another number of entries than there are values, for the variable of this number.
-    fn width_fault(&self, place: u32) -> Option<NetFault>
+    pub(crate) fn width_fault(&self, place: u32) -> Option<NetFault>
         requires { IsNumbered self.now }
         ensures { result ≡ width_at place (draft_of_variable self.now) }
     {
@@ -157,7 +91,7 @@ impl VariableDraft {
     }
 
     /// The first entry that is no share, for the variable of this number.
-    fn entry_fault(&self, zeros: bool, place: u32) -> Option<NetFault>
+    pub(crate) fn entry_fault(&self, zeros: bool, place: u32) -> Option<NetFault>
         requires numbered { IsNumbered self.now }
         requires widths { HasWidths self.now }
         ensures { result ≡ entry_at zeros place (draft_of_variable self.now) }
@@ -173,7 +107,7 @@ impl VariableDraft {
     }
 
     /// The first row whose entries are not a million together, for the variable of this number.
-    fn sum_fault(&self, place: u32) -> Option<NetFault>
+    pub(crate) fn sum_fault(&self, place: u32) -> Option<NetFault>
         requires numbered { IsNumbered self.now }
         requires widths { HasWidths self.now }
         requires shares { HasShares self.now }
@@ -192,7 +126,7 @@ impl VariableDraft {
 
 /// The first entry that is no share, in this row of the variable of this number.
 fn entry_fault(zeros: bool, entries: &[i64], variable: u32, row: u32) -> Option<NetFault>
-    requires { length entries.now ≤ 16 }
+    requires { length entries.now ≤ max_values }
     ensures { result ≡ first_in (entry_of zeros variable row) 1 entries.now }
 {
     let mut column = 0;
@@ -211,7 +145,7 @@ fn entry_fault(zeros: bool, entries: &[i64], variable: u32, row: u32) -> Option<
 
 /// Whether the entries of this row of the variable of this number are not a million together.
 fn sum_fault(entries: &[i64], variable: u32, row: u32) -> Option<NetFault>
-    requires few { length entries.now ≤ 16 }
+    requires few { length entries.now ≤ max_values }
     requires shares { All (λ e. is_share true e ≡ true) entries.now }
     ensures { result ≡ sum_of variable row entries.now }
 {
@@ -229,7 +163,7 @@ fn sum_fault(entries: &[i64], variable: u32, row: u32) -> Option<NetFault>
 
 /// The sum of the shares of a row.
 fn sum_of(entries: &[i64]) -> u64
-    requires few { length entries.now ≤ 16 }
+    requires few { length entries.now ≤ max_values }
     requires shares { All (λ e. is_share true e ≡ true) entries.now }
     ensures sum { result ≡ sum (map share entries.now) }
     ensures small { result ≤ 16000000 }

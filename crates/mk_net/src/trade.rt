@@ -47,10 +47,7 @@ impl Ratio {
             variable: self.variable,
             value: 0,
         };
-        match self.condition.with(first) {
-            Some(event) => event,
-            None => self.condition,
-        }
+        self.condition.with(first).unwrap_or(self.condition)
     }
 }
 

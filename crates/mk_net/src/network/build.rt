@@ -1,6 +1,7 @@
 //! The network of a draft without a fault.
 
 ghost use Rattle.std.specs.Prelude.{◌≡◌, ◌==◌, ◌≤◌, true, false, None, length, map, string_bytes, All, IfOk, IfErr};
+ghost use Rattle.mk_net.specs.Bounds.{max_variables};
 ghost use Rattle.mk_net.specs.Below.{list_all, list_any, is_name};
 ghost use Rattle.mk_net.specs.Stored.{variable_of, variables_of};
 ghost use Rattle.mk_net.specs.Drafts.{drafts_of, draft_of_variable};
@@ -38,7 +39,7 @@ pub(super) fn with_zeros(
     alloc: Global,
     variables: &IndexMap<Name, StoredVariable>,
 ) -> Result<Vec<u32>, NoMemory>
-    requires { length variables.now.entries ≤ 256 }
+    requires { length variables.now.entries ≤ max_variables }
     ensures zeros { IfOk result (λ v. v.items ≡ with_zeros (variables_of variables.now.entries)) }
 {
     let mut zeros = Vec::new(alloc);
@@ -70,7 +71,7 @@ fn stored(
     draft: &Draft,
     variable: &VariableDraft,
 ) -> Result<StoredVariable, NetFault>
-    requires few { length draft.now.variables.items ≤ 256 }
+    requires few { length draft.now.variables.items ≤ max_variables }
     requires names { list_all is_name (map string_bytes variable.now.values.items) ≡ true }
     requires apart { has_double (map string_bytes variable.now.values.items) ≡ false }
     requires shares { HasShares variable.now }
@@ -104,7 +105,7 @@ fn names(alloc: Global, texts: &[String]) -> Result<IndexSet<Name>, NetFault>
 
 /// The numbers of the variables of these names.
 fn numbers(alloc: Global, draft: &Draft, names: &[String]) -> Result<Vec<u32>, NetFault>
-    requires { length draft.now.variables.items ≤ 256 }
+    requires { length draft.now.variables.items ≤ max_variables }
     ensures numbers { IfOk result (λ v. v.items ≡ map (number_of (drafts_of draft.now)) (map string_bytes names.now)) }
     ensures memory { IfErr result (λ fault. fault ≡ NetFault.Memory) }
 {
