@@ -22,7 +22,8 @@ use Rattle.mk_states.specs.OfNetwork.{IsPairOf, IsQuestionOf}
 use Rattle.mk_exact.specs.Proper.{IsTradeOf, IsProper}
 use Rattle.mk_exact.specs.Sound.{IsSound}
 use Rattle.mk_states.proofs.Sums.{IsPlus, sums_are_plus, sum_by_is, sum_by-times, sum_by_each}
-use Rattle.mk_states.proofs.Sums.{plus_over-filter, plus_over_each, each_weaker, each_both}
+use Rattle.mk_states.proofs.Sums.{plus_over-filter, plus_over_each, each_filtered, each_weaker}
+use Rattle.mk_states.proofs.Sums.{each_both}
 use Rattle.mk_states.proofs.Sums.{each-flat_map, each-map, each_always}
 use Rattle.mk_states.proofs.Listed.{all_are}
 use Rattle.mk_exact.proofs.Totals.{total_is}
@@ -129,16 +130,6 @@ least_of_same o [] h = absurd (omega (arith, h))
 least_of_same o (x ∷ []) h = lesser_plus.comm o None
 least_of_same o (x ∷ y ∷ ys) h = ap (lesser o) (least_of_same o (y ∷ ys) (omega arith))
     ∙ lesser_same o
-
-each_filtered : {X : Type 0} (P : X → Type 0) (p : X → Bool) (xs : List X) → AllByRecursion P xs
-    → AllByRecursion P (filter p xs)
-each_filtered P p [] h = tt
-each_filtered P p (x ∷ xs) h = at (p x) (each_filtered P p xs h.1)
-  where
-    at : (b : Bool) → AllByRecursion P (filter p xs)
-        → AllByRecursion P (cond b (x ∷ filter p xs) (filter p xs))
-    at true k = (h.0, k)
-    at false k = k
 
 -- the gain of a possible state that passes a test
 abbrev found : List Entry → ℕ → (List ℕ → Bool) → List ℕ → Option ℕ

@@ -1,5 +1,5 @@
 -- The cells of a table over all variables are the states of the network.
-use Rattle.std.proofs.Common.{◌≡◌, ℕ, suc, zero, ◌+◌, ◌<◌, ◌≤◌, Bool, true, cond, ◌||◌, ◌⊎◌, inl, inr, eqb, List, ◌∷◌, map, length, slice_index, slice_index_or, refl, sym, ap, ◌∙◌, arith, eq-eqb}
+use Rattle.std.proofs.Common.{◌≡◌, ℕ, suc, zero, ◌+◌, ◌<◌, Bool, true, cond, ◌||◌, ◌⊎◌, inl, inr, eqb, List, ◌∷◌, map, length, slice_index, slice_index_or, refl, sym, ap, ◌∙◌, arith, eq-eqb}
 use Rattle.std.proofs.Math.Path.{fun_ext}
 use Rattle.std.specs.List.{range_with_len, position_or_len}
 use Rattle.std.proofs.lemmas.Bool.{cases_eq, or_left, or_right, or_cases, eqb-true}
@@ -18,16 +18,9 @@ use Rattle.mk_sums.proofs.Tables.{cells_nest}
 use Rattle.mk_scope.specs.Scopes.{ScopeOf, size_in, cells_in, scope_of, has_variable, HasSized}
 use Rattle.mk_scope.specs.Cells.{values_at}
 use Rattle.mk_scope.proofs.Members.{size_of_map}
+use Rattle.mk_scope.proofs.Onto.{listed_range}
 use Rattle.mk_scope.proofs.Values.{cells_same, place_same}
 use Rattle.mk_joint.specs.inner.Joints.{whole_scope, joint_states}
-
-listed_range : (a n x : ℕ) → a ≤ x → x < a + n → listed (range_with_len a n) x ≡ true
-listed_range a zero x p q = absurd (omega arith)
-listed_range a (suc n) x p q = at (cases_eq x a) (λ r. listed_range (a + 1) n x r (omega arith))
-  where
-    at : ((x ≡ a) ⊎ (x ≡ a → ⊥)) → (a + 1 ≤ x → listed (range_with_len (a + 1) n) x ≡ true) → (eqb x a || listed (range_with_len (a + 1) n) x) ≡ true
-    at (inl e) ih = or_left (eqb x a) (listed (range_with_len (a + 1) n) x) (eq-eqb x a e)
-    at (inr d) ih = or_right (eqb x a) (listed (range_with_len (a + 1) n) x) (ih (omega (arith, d)))
 
 -- a set that has each number of a range keeps them all
 keep_range : (set : ℕ → Bool) (a n : ℕ) → ((x : ℕ) → x < a + n → set x ≡ true) → keep set (range_with_len a n) ≡ range_with_len a n

@@ -1,5 +1,5 @@
 -- What the calls of a table do to the joint that it has.
-use Rattle.std.proofs.Common.{◌≡◌, ℕ, ◌+◌, ◌*◌, ◌<◌, ◌≤◌, ◌==◌, Bool, true, false, cond, if◌then◌else◌, List, [], ◌∷◌, ◌++◌, count_by, length, set, slice_index, slice_index_or, All, refl, sym, ap, subst, ◌∙◌, arith}
+use Rattle.std.proofs.Common.{◌≡◌, ℕ, ◌+◌, ◌*◌, ◌<◌, ◌≤◌, ◌==◌, Bool, true, false, cond, if◌then◌else◌, List, [], ◌∷◌, ◌++◌, count_by, length, set, slice_index_or, All, refl, sym, ap, subst, ◌∙◌, arith}
 use Rattle.std.specs.Prelude.{Some, None}
 use Rattle.std.specs.List.{AllByRecursion}
 use Rattle.std.proofs.Math.Path.{fun_ext}
@@ -12,8 +12,6 @@ use Rattle.mk_net.specs.Network.{Variable, sizes, IsNetwork}
 use Rattle.mk_net.specs.Named.{variable_at, nobody}
 use Rattle.mk_net.specs.Asked.{TradeRatio, ratio_pairs}
 use Rattle.mk_states.specs.OfNetwork.{IsPairOf, IsRatioOf}
-use Rattle.mk_states.proofs.Sums.{each_weaker}
-use Rattle.mk_states.proofs.Listed.{as_many}
 use Rattle.mk_states.proofs.Shares.{size_at}
 use Rattle.mk_tree.specs.Given.{GivenTree}
 use Rattle.mk_scope.specs.Scopes.{ScopeOf, cells_in, has_variable, HasEvent, HasOneEach, HasSized}
@@ -31,21 +29,6 @@ use Rattle.mk_joint.proofs.Factors.{sized_parents, joint_more, joint_known}
 -- two networks of one scope have the same sizes, and so the same pairs and ratios
 pub same_sizes : (a b : List Variable) (scope : ScopeOf) → scope ≡ whole_scope a → scope ≡ whole_scope b → sizes a ≡ sizes b
 same_sizes a b scope e f = ap (λ (s : ScopeOf). s.sizes) (sym e ∙ f)
-
-module _ (a b : List Variable) (same : sizes a ≡ sizes b) where
-  pub pair_same : (p : Pair) → IsPairOf a p → IsPairOf b p
-  pair_same p h = record {
-    variable = let l = ap (λ (ns : List ℕ). length ns) same in omega (arith, h.variable, l, as_many a, as_many b);
-    value = subst (λ (ns : List ℕ). p.value < slice_index_or ns p.variable 0) same h.value;
-  }
-
-  pub ratio_same : (ratio : TradeRatio) → IsRatioOf a ratio → IsRatioOf b ratio
-  ratio_same ratio h = record {
-    variable = let l = ap (λ (ns : List ℕ). length ns) same in omega (arith, h.variable, l, as_many a, as_many b);
-    condition = each_weaker (IsPairOf a) (IsPairOf b) pair_same ratio.condition h.condition;
-    one_each = h.one_each ∙ ap (λ (ns : List ℕ). slice_index ns ratio.variable) same;
-    positive = h.positive;
-  }
 
 -- it has each variable with its parents
 pub sized_in : (network : List Variable) (scope : ScopeOf) → scope ≡ whole_scope network → (x : ℕ) → x < length network → HasSized network scope x

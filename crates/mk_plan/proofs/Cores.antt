@@ -1,5 +1,5 @@
 -- The core of a clique has what it shares with each of its neighbours.
-use Rattle.std.proofs.Common.{◌≡◌, ℕ, suc, zero, ◌+◌, ◌-◌, ◌<◌, ◌≤◌, Bool, true, false, cond, ◌||◌, ◌⊎◌, inl, inr, List, [], ◌∷◌, ◌++◌, filter, length, take, get_or, refl, sym, ap, ◌∙◌, arith}
+use Rattle.std.proofs.Common.{◌≡◌, ℕ, suc, zero, ◌+◌, ◌-◌, ◌<◌, ◌≤◌, Bool, true, false, cond, ◌||◌, ◌⊎◌, inl, inr, List, [], ◌∷◌, ◌++◌, filter, length, take, get_or, refl, sym, subst, ap, ◌∙◌, arith}
 use Rattle.std.proofs.Math.Path.{fun_ext}
 use Rattle.std.specs.List.{range_with_len, list_any}
 use Rattle.std.proofs.lemmas.Bool.{cases_eq, both_ways, or_left, or_right, and_from, and_parts}
@@ -10,7 +10,7 @@ use Rattle.mk_net.specs.Network.{Variable, IsNetwork}
 use Rattle.mk_sums.specs.Trees.{linked, linked_to}
 use Rattle.mk_sums.proofs.Hops.{AreLinked, are_linked, linked_back, linked_from, ends}
 use Rattle.mk_scope.specs.Scopes.{cells_in, scope_of, LiesIn}
-use Rattle.mk_tree.specs.Given.{GivenTree, clique_at, holds, link_of}
+use Rattle.mk_tree.specs.Given.{GivenTree, holds, link_of}
 use Rattle.mk_tree.specs.Given as given
 use Rattle.mk_tree.specs.Checked.{IsTreeOf}
 use Rattle.mk_plan.specs.Shapes.{IsClique, scope_within, shares, in_core, neighbours}
@@ -82,6 +82,11 @@ pub neighbour_is : (tree : GivenTree) → given.AreLinked tree → (k j i : ℕ)
 neighbour_is tree are k j i l e =
     let at = ends (link_of tree) (length tree.cliques) i k are.earlier (are_linked (link_of tree) (length tree.cliques) i k (neighbour_linked tree k j i l e)) in
     record { first = at.0; last = at.1 }
+
+-- and so is what stands at its place in the list that was read
+pub listed_is : (tree : GivenTree) → given.AreLinked tree → (k j : ℕ) (items : List ℕ) → items ≡ neighbours tree k → j < length items → IsClique tree (get_or items j 0)
+listed_is tree are k j items same l =
+    neighbour_is tree are k j _ (subst (λ (xs : List ℕ). j < length xs) same l) (ap (λ (xs : List ℕ). get_or xs j 0) same)
 
 -- one neighbour more
 pub around_more : (tree : GivenTree) (listed : List ℕ) (j x : ℕ) → j < length listed → list_any (λ i. holds tree i x) (take (j + 1) listed) ≡ (list_any (λ i. holds tree i x) (take j listed) || holds tree (get_or listed j 0) x)

@@ -10,7 +10,6 @@ use Rattle.mk_net.specs.Network.{Variable, IsNetwork, sizes}
 use Rattle.mk_net.specs.Named.{variable_at, nobody}
 use Rattle.mk_net.specs.Asked.{TradeRatio, ratio_pairs}
 use Rattle.mk_states.specs.OfNetwork.{IsPairOf, IsRatioOf}
-use Rattle.mk_states.proofs.Sums.{each_weaker}
 use Rattle.mk_states.proofs.Listed.{as_many}
 use Rattle.mk_states.proofs.Shares.{size_at, parents_within}
 use Rattle.mk_scope.specs.Scopes.{ScopeOf, size_in, has_variable, HasEvent, HasOneEach, HasSized}
@@ -72,21 +71,6 @@ same_sizes shape a b of_a of_b =
     long (inl l) _ = let m = in_other shape b a of_b of_a (length a) l in absurd (omega (arith, m))
     long (inr l) (inl m) = let n = in_other shape a b of_a of_b (length b) m in absurd (omega (arith, n))
     long (inr l) (inr m) = omega (arith, l, m)
-
-module _ (a b : List Variable) (same : sizes a ≡ sizes b) where
-  pub pair_same : (p : Pair) → IsPairOf a p → IsPairOf b p
-  pair_same p h = record {
-    variable = let l = ap (λ (ns : List ℕ). length ns) same in omega (arith, h.variable, l, as_many a, as_many b);
-    value = subst (λ (ns : List ℕ). p.value < slice_index ns p.variable) same h.value;
-  }
-
-  pub ratio_same : (ratio : TradeRatio) → IsRatioOf a ratio → IsRatioOf b ratio
-  ratio_same ratio h = record {
-    variable = let l = ap (λ (ns : List ℕ). length ns) same in omega (arith, h.variable, l, as_many a, as_many b);
-    condition = each_weaker (IsPairOf a) (IsPairOf b) pair_same ratio.condition h.condition;
-    one_each = h.one_each ∙ ap (λ (ns : List ℕ). slice_index ns ratio.variable) same;
-    positive = h.positive;
-  }
 
 -- ---- a clique that holds the variables of a factor has them in its scope
 

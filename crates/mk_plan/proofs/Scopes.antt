@@ -1,8 +1,8 @@
 -- The scopes of cliques and separators.
-use Rattle.std.proofs.Common.{◌≡◌, ℕ, suc, zero, ◌+◌, ◌*◌, ◌<◌, ◌≤◌, Bool, true, false, cond, ◌&&◌, ◌||◌, ◌⊎◌, inl, inr, eqb, ◌-◌, List, [], ◌∷◌, filter, length, slice_index, refl, sym, ap, subst, ◌∙◌, arith, eq-eqb}
+use Rattle.std.proofs.Common.{◌≡◌, ℕ, suc, zero, ◌+◌, ◌*◌, ◌<◌, ◌≤◌, Bool, true, false, cond, ◌&&◌, ◌⊎◌, inl, inr, eqb, ◌-◌, List, [], ◌∷◌, filter, length, slice_index, refl, sym, ap, subst, ◌∙◌, arith, eq-eqb}
 use Rattle.std.proofs.Math.Path.{fun_ext}
 use Rattle.std.proofs.Math.Nat.{mul-le-mul}
-use Rattle.std.proofs.lemmas.Bool.{cases_Bool, cases_eq, both_ways, or_left, or_right, or_cases, and_parts, eqb-true, cond-true, cond-false}
+use Rattle.std.proofs.lemmas.Bool.{cases_Bool, both_ways, or_left, or_right, or_cases, and_parts, eqb-true, cond-true, cond-false}
 use Rattle.std.proofs.lemmas.List.{length-map}
 use Rattle.std.specs.List.{range_with_len}
 use Rattle.mk_net.specs.Bounds.{max_clique_cells}
@@ -17,6 +17,7 @@ use Rattle.mk_sums.specs.Joint.{variables}
 use Rattle.mk_scope.specs.Scopes.{size_in, cells_in, has_variable, scope_of, LiesIn, HasSized}
 use Rattle.mk_scope.specs.Cells.{values_at}
 use Rattle.mk_scope.proofs.Members.{size_of_map}
+use Rattle.mk_scope.proofs.Onto.{listed_keep, listed_range}
 use Rattle.mk_scope.proofs.Values.{cells_same, place_same, place_below, place_other}
 use Rattle.mk_tree.specs.Given.{GivenTree, clique_at, holds, link_of}
 use Rattle.mk_tree.specs.Tests.{cells_of, members}
@@ -35,18 +36,6 @@ keeps set (y ∷ ys) x l s = at (set y) (or_cases (eqb x y) (listed ys x) l) (λ
     at true (inr p) h ih = or_right (eqb x y) (listed (keep set ys) x) (ih p)
     at false (inl e) h ih = absurd (both_ways false refl (h (eqb-true x y e)))
     at false (inr p) h ih = ih p
-
-kept_listed : (set : ℕ → Bool) (xs : List ℕ) (x : ℕ) → listed (keep set xs) x ≡ true → listed xs x ≡ true
-kept_listed set [] x l = l
-kept_listed set (y ∷ ys) x l = at (set y) l (kept_listed set ys x)
-  where
-    at : (b : Bool) → listed (cond b (y ∷ keep set ys) (keep set ys)) x ≡ true → (listed (keep set ys) x ≡ true → listed ys x ≡ true) → (eqb x y || listed ys x) ≡ true
-    at true h ih = first (or_cases (eqb x y) (listed (keep set ys) x) h)
-      where
-        first : ((eqb x y ≡ true) ⊎ (listed (keep set ys) x ≡ true)) → (eqb x y || listed ys x) ≡ true
-        first (inl e) = or_left (eqb x y) (listed ys x) e
-        first (inr p) = or_right (eqb x y) (listed ys x) (ih p)
-    at false h ih = or_right (eqb x y) (listed ys x) (ih h)
 
 kept_in : (set : ℕ → Bool) (xs : List ℕ) (x : ℕ) → listed (keep set xs) x ≡ true → set x ≡ true
 kept_in set [] x l = absurd (both_ways false refl l)
@@ -69,14 +58,6 @@ in_range a (suc n) x h = at (or_cases (eqb x a) (listed (range_with_len (a + 1) 
     at (inl e) ih = let q : x ≡ a = eqb-true x a e in (omega arith, omega arith)
     at (inr p) ih = let q = ih p in (omega (arith, q.0), omega (arith, q.1))
 
-listed_range : (a n x : ℕ) → a ≤ x → x < a + n → listed (range_with_len a n) x ≡ true
-listed_range a zero x p q = absurd (omega arith)
-listed_range a (suc n) x p q = at (cases_eq x a) (λ r. listed_range (a + 1) n x r (omega arith))
-  where
-    at : ((x ≡ a) ⊎ (x ≡ a → ⊥)) → (a + 1 ≤ x → listed (range_with_len (a + 1) n) x ≡ true) → (eqb x a || listed (range_with_len (a + 1) n) x) ≡ true
-    at (inl e) ih = or_left (eqb x a) (listed (range_with_len (a + 1) n) x) (eq-eqb x a e)
-    at (inr d) ih = or_right (eqb x a) (listed (range_with_len (a + 1) n) x) (ih (omega (arith, d)))
-
 -- ---- the scope of a set
 
 module _ (network : List Variable) where
@@ -95,7 +76,7 @@ module _ (network : List Variable) where
     has_within x h s = keeps set (variables (sizes network)) x (listed_variable x h) s
 
     pub within_network : (x : ℕ) → has_variable (scope_within network set) x ≡ true → x < length network
-    within_network x h = variable_of_network x (kept_listed set (variables (sizes network)) x h)
+    within_network x h = variable_of_network x (listed_keep set (variables (sizes network)) x h)
 
     pub within_set : (x : ℕ) → has_variable (scope_within network set) x ≡ true → set x ≡ true
     within_set x h = kept_in set (variables (sizes network)) x h

@@ -30,6 +30,7 @@ use Rattle.mk_propagate.proofs.Messages.{core_room_one, table_room}
 use Rattle.mk_propagate.proofs.Sending.{core_is, core_put, cores_still, mark_is, mark_put, mark_within, others_set, read_back}
 use Rattle.mk_propagate.proofs.Placed as placed
 use Rattle.mk_plan.proofs.Required as required
+use Rattle.mk_states.proofs.Alike.{pair_same, ratio_same}
 
 -- a flow over a board
 abbrev pub flow_over : ShapeOf → List Bool → ℕ → ℕ → BoardOf → FlowOf
@@ -327,8 +328,8 @@ module _ (plus : ℕ → ℕ → ℕ) (now : FlowOf) (p q : Placing) (h : HasPla
 
   pub ratio_fits_each : (clique : ℕ) (ratio : TradeRatio) → IsPlacedFactor p.network now.shape.tree (record { clique = clique; factor = RatioOf ratio })
       → IsPlacedFactor q.network now.shape.tree (record { clique = clique; factor = RatioOf ratio })
-  ratio_fits_each clique ratio f = record { clique_is = f.clique_is; fits = (required.ratio_same p.network q.network sized_alike ratio f.fits.0, f.fits.1) }
+  ratio_fits_each clique ratio f = record { clique_is = f.clique_is; fits = (ratio_same p.network q.network sized_alike ratio f.fits.0, f.fits.1) }
 
   pub pair_fits_each : (clique : ℕ) (pair : Pair) → IsPlacedPair p.network now.shape.tree (record { clique = clique; pair = pair })
       → IsPlacedPair q.network now.shape.tree (record { clique = clique; pair = pair })
-  pair_fits_each clique pair f = record { clique_is = f.clique_is; in_range = required.pair_same p.network q.network sized_alike pair f.in_range; holds_it = f.holds_it }
+  pair_fits_each clique pair f = record { clique_is = f.clique_is; in_range = pair_same p.network q.network sized_alike pair f.in_range; holds_it = f.holds_it }

@@ -44,7 +44,7 @@ sum_of_twos zero = refl
 sum_of_twos (suc k) = let ih = sum_of_twos k in omega (arith, ih)
 
 -- a sum over cliques is one over their list
-sum_of_first : {X : Type 0} (f : X → ℕ) (xs : List X) (d : X) (n : ℕ) → n ≤ length xs → sum_of (λ j. true) n (λ j. f (slice_index_or xs (j - 1) d)) ≡ sum_by f (take n xs)
+pub sum_of_first : {X : Type 0} (f : X → ℕ) (xs : List X) (d : X) (n : ℕ) → n ≤ length xs → sum_of (λ j. true) n (λ j. f (slice_index_or xs (j - 1) d)) ≡ sum_by f (take n xs)
 sum_of_first f xs d zero h = refl
 sum_of_first f xs d (suc n) h =
     let ih = sum_of_first f xs d n (omega arith) in

@@ -194,14 +194,12 @@ module _ (tree : GivenTree) (tied : given.AreLinked tree) (root : ℕ) (at_root 
               let not_down : down ≡ false = not_both_true down (λ v. let a = up_parts (suc n) u in let b = down_parts (suc n) v in omega (arith, a.1, b.1)) in
               let x : cond {A = ℕ} up 1 0 ≡ 1 = ap (λ (b : Bool). cond {A = ℕ} b 1 0) u in
               let y : cond {A = ℕ} down 1 0 ≡ 0 = ap (λ (b : Bool). cond {A = ℕ} b 1 0) not_down in
-              let z = same c in
-              omega (arith, ih, x, y, z)
+              omega (arith, ih, x, y, same c)
           from c (inr v) =
               let not_up : up ≡ false = not_both_true up (λ u. let a = up_parts (suc n) u in let b = down_parts (suc n) v in omega (arith, a.1, b.1)) in
               let x : cond {A = ℕ} up 1 0 ≡ 0 = ap (λ (b : Bool). cond {A = ℕ} b 1 0) not_up in
               let y : cond {A = ℕ} down 1 0 ≡ 1 = ap (λ (b : Bool). cond {A = ℕ} b 1 0) v in
-              let z = same c in
-              omega (arith, ih, x, y, z)
+              omega (arith, ih, x, y, same c)
 
   pub one_less : count_of (leads_up tree root) (length tree.cliques) + count_of (leads_down tree root) (length tree.cliques) ≡ length tree.cliques - 1
   one_less =

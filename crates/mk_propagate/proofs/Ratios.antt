@@ -1,20 +1,16 @@
 -- The ratios that are placed: their numbers add up over the neighbours of a clique, and a clique holds the variable of a pair that they have in common wherever one of them is placed.
-use Rattle.std.proofs.Common.{◌≡◌, ◌≢◌, ℕ, suc, zero, ◌+◌, ◌*◌, ◌^◌, ◌<◌, ◌≤◌, Bool, true, false, cond, not, ◌&&◌, ◌⊎◌, inl, inr, eqb, List, [], ◌∷◌, ◌++◌, map, length, sum_by, count_by, Some, None, refl, sym, ap, ◌∙◌, arith, eq-eqb, ne_eqb}
+use Rattle.std.proofs.Common.{◌≡◌, ◌≢◌, ℕ, suc, zero, ◌+◌, ◌≤◌, Bool, true, false, cond, not, ◌&&◌, ◌⊎◌, inl, inr, eqb, List, [], ◌∷◌, ◌++◌, map, length, sum_by, count_by, Some, None, refl, sym, ap, ◌∙◌, arith, eq-eqb, ne_eqb}
 use Rattle.std.specs.List.{Contains, AllByRecursion, list_all, list_any}
 use Rattle.std.proofs.Math.Path.{fun_ext}
-use Rattle.std.proofs.Math.Nat.{one-mul}
-use Rattle.std.proofs.Math.Pow.{pow-lt}
-use Rattle.std.proofs.lemmas.Nat.{pow-add}
-use Rattle.std.proofs.lemmas.Bool.{cases_Bool, cases_order, both_ways, and_parts, and_right, or_parts, eqb-true}
+use Rattle.std.proofs.lemmas.Bool.{cases_Bool, both_ways, and_parts, and_right, or_parts, eqb-true}
 use Rattle.std.proofs.lemmas.List.Elements.{All-from_recursion, recursion_from_All}
 use Rattle.std.proofs.lemmas.List.Folds.{list_all-append, list_all_at}
 use Rattle.std.proofs.lemmas.List.Sums.{sum_by_push, sum_by-cons}
 use Rattle.mk_net.specs.declared.words.Pair.{Pair}
 use Rattle.mk_net.specs.Asked.{TradeRatio, ratio_pairs}
 use Rattle.mk_net.specs.Network.{Variable}
-use Rattle.mk_sums.specs.Trees.{Links, times_of, sum_of, linked, linked_to, linked_but, behind, hop}
-use Rattle.mk_sums.proofs.Grades.{sums_lawful}
-use Rattle.mk_sums.proofs.Groups.{message_law, read_law}
+use Rattle.mk_sums.specs.Trees.{sum_of, linked, linked_to, hop}
+use Rattle.mk_sums.proofs.Grades.{sides_add, all_add}
 use Rattle.mk_sums.proofs.Hops.{are_linked, ends}
 use Rattle.mk_sums.proofs.Sides.{crossing}
 use Rattle.mk_tree.specs.Given.{GivenTree, holds, link_of}
@@ -62,46 +58,6 @@ module _ (p : Placing) (clique : ℕ) (f : Factor) where
 
   pub common_to_it : (pair : Pair) → IsCommon (with_factor_in clique f p) pair → HasCondition pair f
   common_to_it pair h = (all_parted pair h).1
-
--- ---- numbers add up over a tree, as powers of 2 over no variables do
-
-power_of : (set : ℕ → Bool) (m : ℕ) (w : ℕ → ℕ) (s : ℕ → ℕ) → times_of set m (λ j t. 2 ^ w j) s ≡ 2 ^ sum_of set m w
-power_of set zero w s = refl
-power_of set (suc k) w s = ap (λ n. n * cond (set (suc k)) (2 ^ w (suc k)) 1) (power_of set k w s) ∙ ap (λ n. 2 ^ sum_of set k w * n) (at (set (suc k))) ∙ sym (pow-add 2 (sum_of set k w) (cond (set (suc k)) (w (suc k)) 0))
-  where
-    at : (b : Bool) → cond b (2 ^ w (suc k)) 1 ≡ 2 ^ cond b (w (suc k)) 0
-    at true = refl
-    at false = refl
-
-same_power : (a b : ℕ) → 2 ^ a ≡ 2 ^ b → a ≡ b
-same_power a b e = at (cases_order a b)
-  where
-    at : ((a ≡ b) ⊎ ((a < b) ⊎ (b < a))) → a ≡ b
-    at (inl f) = f
-    at (inr (inl h)) = let p : 2 ^ a < 2 ^ b = pow-lt h in absurd (omega arith)
-    at (inr (inr h)) = let p : 2 ^ b < 2 ^ a = pow-lt h in absurd (omega arith)
-
-module _ (link : ℕ → ℕ) (m : ℕ) (links : Links link m) (w : ℕ → ℕ) where
-  sides_add : (a b : ℕ) → linked link m a b ≡ true → sum_of (behind link m a b) m w ≡ w a + sum_of (linked_but link m a b) m (λ i. sum_of (behind link m i a) m w)
-  sides_add a b h =
-      same_power _ _
-      (sym (power_of (behind link m a b) m w (λ x. 0))
-      ∙ message_law ◌+◌ (λ x. 0) [] (λ k x. false) (λ j t. 2 ^ w j) link m sums_lawful (record { links = links; running = λ x i j p q r s e f. absurd (both_ways false refl e); fits = λ k p q s t e. refl }) a b h (λ x. 0)
-      ∙ ap (λ (g : ℕ → (ℕ → ℕ) → ℕ). 2 ^ w a * times_of (linked_but link m a b) m g (λ x. 0)) (fun_ext (λ i. fun_ext (λ t. power_of (behind link m i a) m w t)))
-      ∙ ap (λ n. 2 ^ w a * n) (power_of (linked_but link m a b) m (λ i. sum_of (behind link m i a) m w) (λ x. 0))
-      ∙ sym (pow-add 2 (w a) (sum_of (linked_but link m a b) m (λ i. sum_of (behind link m i a) m w))))
-
-  all_add : (a : ℕ) → 1 ≤ a → a ≤ m → sum_of (λ j. true) m w ≡ w a + sum_of (linked_to link m a) m (λ i. sum_of (behind link m i a) m w)
-  all_add a first last =
-      same_power _ _
-      (sym (power_of (λ j. true) m w (λ x. 0))
-      ∙ sym (one-mul (times_of (λ j. true) m (λ j t. 2 ^ w j) (λ x. 0)))
-      ∙ read_law ◌+◌ (λ x. 0) [] (λ k x. false) (λ j t. 2 ^ w j) link m sums_lawful (record { links = links; running = λ x i j p q r s e f. absurd (both_ways false refl e); fits = λ k p q s t e. refl }) a
-      (λ x e. absurd (both_ways false refl e)) first last (λ t. 1) (λ s t e. refl) (λ x. 0)
-      ∙ one-mul (2 ^ w a * times_of (linked_to link m a) m (λ i. times_of (behind link m i a) m (λ j t. 2 ^ w j)) (λ x. 0))
-      ∙ ap (λ (g : ℕ → (ℕ → ℕ) → ℕ). 2 ^ w a * times_of (linked_to link m a) m g (λ x. 0)) (fun_ext (λ i. fun_ext (λ t. power_of (behind link m i a) m w t)))
-      ∙ ap (λ n. 2 ^ w a * n) (power_of (linked_to link m a) m (λ i. sum_of (behind link m i a) m w) (λ x. 0))
-      ∙ sym (pow-add 2 (w a) (sum_of (linked_to link m a) m (λ i. sum_of (behind link m i a) m w))))
 
 -- a sum of nothing
 sum_none : (set : ℕ → Bool) (m : ℕ) (w : ℕ → ℕ) → ((j : ℕ) → 1 ≤ j → j ≤ m → set j ≡ true → w j ≡ 0) → sum_of set m w ≡ 0

@@ -11,7 +11,7 @@ use Rattle.mk_sums.specs.Cells.{cells}
 use Rattle.mk_sums.specs.There.{holds_there}
 use Rattle.mk_scope.specs.Scopes.{ScopeOf, IsScope, HasEvent, size_in, cells_in}
 use Rattle.mk_scope.specs.Cells.{values_at, cells_where}
-use Rattle.mk_scope.specs.inner.Strides.{repeated, cells_with, lets, values_let, values_moved, is_moved}
+use Rattle.mk_scope.specs.inner.Strides.{MayRepeat, repeated, cells_with, lets, values_let, values_moved, is_moved}
 use Rattle.mk_scope.proofs.Members.{size_at, size_pos, rising_apart}
 use Rattle.mk_scope.proofs.Values.{cells_pos, cells_split}
 use Rattle.mk_scope.proofs.Chosen.{chosen_few, chosen_pass}
@@ -20,11 +20,9 @@ use Rattle.mk_scope.proofs.Pinned.{holds_by_values}
 
 -- what is listed so far may be repeated for one variable more
 pub record IsReady (scope : ScopeOf) (values : ℕ → List ℕ) (passed size x stride : ℕ) (items : List ℕ) : Type 0 where
-  pub below : All (λ c. c < stride) items
-  pub few : length items ≤ stride
-  pub fits : size * stride ≤ 4096
-  pub some : 1 ≤ size
+  pub may_repeat : MayRepeat stride size items
   pub size_is : size ≡ size_in scope x
+  pub next_within : passed + 1 ≤ length scope.variables
   pub next_stride : stride * size ≡ cells (size_in scope) (drop (length scope.variables - (passed + 1)) scope.variables)
   pub next_items : (new : List ℕ) → new ≡ repeated stride (values x) items → new ≡ cells_with (size_in scope) values (drop (length scope.variables - (passed + 1)) scope.variables)
 
@@ -39,8 +37,11 @@ module _ (scope : ScopeOf) (is : IsScope scope) (values : ℕ → List ℕ) (are
   -- by the place of the variable, where `rest` is what was passed
   at_place : (place stride : ℕ) (items : List ℕ) → place < length scope.variables
       → stride ≡ cells (size_in scope) (drop (place + 1) scope.variables) → items ≡ cells_with (size_in scope) values (drop (place + 1) scope.variables)
-      → (passed : ℕ) → length scope.variables - (passed + 1) ≡ place → IsReady scope values passed (get_or scope.sizes place 0) (get_or scope.variables place 0) stride items
-  at_place place stride items l e f passed g =
+      → (passed : ℕ) → passed < length scope.variables
+      → length scope.variables - (passed + 1) ≡ place
+      → IsReady scope values passed (get_or scope.sizes place 0)
+      (get_or scope.variables place 0) stride items
+  at_place place stride items l e f passed within g =
       let x = get_or scope.variables place 0 in
       let rest = drop (place + 1) scope.variables in
       let size : get_or scope.sizes place 0 ≡ size_in scope x = sym (size_at scope is place l) in
@@ -48,11 +49,16 @@ module _ (scope : ScopeOf) (is : IsScope scope) (values : ℕ → List ℕ) (are
       let here : cells (size_in scope) (drop place scope.variables) ≡ size_in scope x * cells (size_in scope) rest = ap (cells (size_in scope)) more in
       let to_place : drop (length scope.variables - (passed + 1)) scope.variables ≡ drop place scope.variables = ap (λ n. drop n scope.variables) g in
       record {
-        below = rw (e, f) (cells_with_below (size_in scope) values are rest);
-        few = rw (e, f) (cells_with_few (size_in scope) values are rest);
-        fits = let s : get_or scope.sizes place 0 * stride ≡ size_in scope x * cells (size_in scope) rest = rw (size, e) refl in omega (arith, s, here, cells_of_rest scope is place);
-        some = let p = size_pos scope is x in omega (arith, p, size);
+        may_repeat = record {
+          below = rw (e, f) (cells_with_below (size_in scope) values are rest);
+          few = rw (e, f) (cells_with_few (size_in scope) values are rest);
+          fits = let s : get_or scope.sizes place 0 * stride ≡ size_in scope x * cells
+              (size_in scope) rest = rw (size, e) refl in omega
+              (arith, s, here, cells_of_rest scope is place);
+          some = let p = size_pos scope is x in omega (arith, p, size);
+        };
         size_is = size;
+        next_within = omega (arith, within);
         next_stride =
             let s : stride * get_or scope.sizes place 0 ≡ cells (size_in scope) rest * size_in scope x = rw (size, e) refl in
             let t : cells (size_in scope) rest * size_in scope x ≡ size_in scope x * cells (size_in scope) rest = omega arith in
@@ -69,19 +75,27 @@ module _ (scope : ScopeOf) (is : IsScope scope) (values : ℕ → List ℕ) (are
   ready passed place size x stride items l p q r e f =
       let n : length scope.variables - passed ≡ place + 1 = omega (arith, p) in
       let m : length scope.variables - (passed + 1) ≡ place = omega (arith, p) in
-      let h = at_place place stride items (omega (arith, p)) (e ∙ ap (λ k. cells (size_in scope) (drop k scope.variables)) n) (f ∙ ap (λ k. cells_with (size_in scope) values (drop k scope.variables)) n) passed m in
+      let h = at_place place stride items (omega (arith, p)) (e
+      ∙ ap (λ k. cells (size_in scope) (drop k scope.variables)) n) (f
+      ∙ ap (λ k. cells_with (size_in scope) values (drop k scope.variables)) n) passed l m in
       subst (λ s. IsReady scope values passed s x stride items) (sym q) (subst (λ y. IsReady scope values passed (get_or scope.sizes place 0) y stride items) (sym r) h)
 
--- of a scope as it is kept, by what the code read
-pub ready_kept : (kept scope : ScopeOf) → IsScope kept → kept ≡ scope → (values : ℕ → List ℕ) → AreValues (size_in scope) values → (passed place size x stride : ℕ) (items : List ℕ)
-    → passed < length kept.variables → place + 1 + passed ≡ length kept.variables
-    → size ≡ get_or kept.sizes place size → x ≡ get_or kept.variables place x
+-- of a scope as it is kept, by what a loop over its variables read
+pub ready_kept : (kept scope : ScopeOf) → IsScope kept → kept ≡ scope → (values : ℕ → List ℕ)
+    → AreValues (size_in scope) values → (count passed size x stride : ℕ) (items : List ℕ)
+    → count ≡ length kept.variables → passed < count
+    → size ≡ get_or kept.sizes (count - 1 - passed) size
+    → x ≡ get_or kept.variables (count - 1 - passed) x
     → stride ≡ cells (size_in scope) (drop (length scope.variables - passed) scope.variables) → items ≡ cells_with (size_in scope) values (drop (length scope.variables - passed) scope.variables)
     → IsReady scope values passed size x stride items
-ready_kept kept scope is same values are passed place size x stride items l p q r =
+ready_kept kept scope is same values are count passed size x stride items n l q r =
+    let place = count - 1 - passed in
+    let p : place + 1 + passed ≡ length kept.variables = omega (arith, n, l) in
     subst (λ (s : ScopeOf). AreValues (size_in s) values → stride ≡ cells (size_in s) (drop (length s.variables - passed) s.variables) → items ≡ cells_with (size_in s) values (drop (length s.variables - passed) s.variables)
     → IsReady s values passed size x stride items) same
-    (λ a e f. ready kept is values a passed place size x stride items l p (get_or_read kept.sizes place size (omega (arith, p, is.one_size_each)) q 0) (get_or_read kept.variables place x (omega (arith, p)) r 0) e f) are
+    (λ a e f. ready kept is values a passed place size x stride items (omega (arith, n, l)) p
+    (get_or_read kept.sizes place size (omega (arith, p, is.one_size_each)) q 0)
+    (get_or_read kept.variables place x (omega (arith, p)) r 0) e f) are
 
 -- ---- the values of an event, and of what moves
 

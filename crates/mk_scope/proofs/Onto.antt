@@ -55,7 +55,17 @@ eqb_split v k g d p l = at (cases_eq (v * k + g) d)
         eq-eqb (v * k + g) d e ∙ sym (ap (λ b. b && eqb g (d % k)) (eq-eqb v (d / k) q) ∙ eq-eqb g (d % k) r)
     at (inr n) = ne_eqb (v * k + g) d n ∙ sym (apart n (cases_eq v (d / k)) (cases_eq g (d % k)))
 
-listed_keep : (inside : ℕ → Bool) (xs : List ℕ) (y : ℕ) → listed (keep inside xs) y ≡ true → listed xs y ≡ true
+pub listed_range : (a n x : ℕ) → a ≤ x → x < a + n → listed (range_with_len a n) x ≡ true
+listed_range a zero x p q = absurd (omega arith)
+listed_range a (suc n) x p q = at (cases_eq x a) (λ r. listed_range (a + 1) n x r (omega arith))
+  where
+    at : ((x ≡ a) ⊎ (x ≡ a → ⊥)) → (a + 1 ≤ x → listed (range_with_len (a + 1) n) x ≡ true)
+        → (eqb x a || listed (range_with_len (a + 1) n) x) ≡ true
+    at (inl e) ih = or_left (eqb x a) (listed (range_with_len (a + 1) n) x) (eq-eqb x a e)
+    at (inr d) ih = or_right (eqb x a) (listed (range_with_len (a + 1) n) x) (ih (omega (arith, d)))
+
+pub listed_keep : (inside : ℕ → Bool) (xs : List ℕ) (y : ℕ) → listed (keep inside xs) y ≡ true
+    → listed xs y ≡ true
 listed_keep inside [] y h = h
 listed_keep inside (x ∷ xs) y h = at (inside x) h (listed_keep inside xs y)
   where

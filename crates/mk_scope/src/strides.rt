@@ -2,7 +2,7 @@
 
 ghost use Rattle.std.specs.Prelude.{◌≡◌, ℕ, ◌+◌, ◌*◌, ◌<◌, ◌≤◌, true, [], ◌∷◌, ◌++◌, All, map, filter, take, length, max, vec_capacity, Option, IfOk, IfSome, IfNone, ◌==◌, if◌then◌else◌, not};
 ghost use Rattle.mk_scope.specs.Below.{max_clique_cells, numbers_below, IsEvent};
-ghost use Rattle.mk_scope.specs.inner.Strides.{repeated, lets};
+ghost use Rattle.mk_scope.specs.inner.Strides.{MayRepeat, repeated, lets};
 
 use mk_names::limits::MAX_CLIQUE_CELLS;
 use mk_net::{NoMemory, Pair};
@@ -92,10 +92,7 @@ pub(crate) fn take_values(
     variable: u32,
 )
     requires event { IsEvent pairs.now }
-    requires below { All (λ c. c < stride) cells.old.items }
-    requires few { length cells.old.items ≤ stride }
-    requires fits { size * stride ≤ max_clique_cells }
-    requires some { 1 ≤ size }
+    requires repeatable { MayRepeat stride size cells.old.items }
     ensures { cells.new.items ≡ repeated stride (filter (lets pairs.now variable) (numbers_below size)) cells.old.items }
 {
     match value_in(pairs, variable) {
@@ -112,10 +109,7 @@ pub(crate) fn take_values(
 
 /// Repeats what is listed for each value of a variable that moves, and leaves it for the first value of another.
 pub(crate) fn take_moved(cells: &mut CellList, stride: usize, size: usize, moved: bool)
-    requires below { All (λ c. c < stride) cells.old.items }
-    requires few { length cells.old.items ≤ stride }
-    requires fits { size * stride ≤ max_clique_cells }
-    requires some { 1 ≤ size }
+    requires { MayRepeat stride size cells.old.items }
     ensures { cells.new.items ≡ repeated stride (if moved then numbers_below size else 0 ∷ []) cells.old.items }
 {
     if moved {
@@ -157,10 +151,7 @@ fn value_in(pairs: &[Pair], variable: u32) -> Option<u32>
 
 /// Repeats what is listed for each value of a variable.
 fn repeat(cells: &mut CellList, stride: usize, size: usize)
-    requires below { All (λ c. c < stride) cells.old.items }
-    requires few { length cells.old.items ≤ stride }
-    requires fits { size * stride ≤ max_clique_cells }
-    requires some { 1 ≤ size }
+    requires { MayRepeat stride size cells.old.items }
     ensures { cells.new.items ≡ repeated stride (numbers_below size) cells.old.items }
 {
     let count = cells.len();

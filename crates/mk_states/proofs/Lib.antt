@@ -1,3 +1,4 @@
 pub mod Sums
 pub mod Listed
 pub mod Shares
+pub mod Alike

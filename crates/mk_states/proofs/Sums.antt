@@ -4,7 +4,7 @@ use Rattle.std.proofs.Math.Path.{fun_ext}
 use Rattle.std.proofs.Math.Nat.{pow-zero, one-le-mul}
 use Rattle.std.specs.List.{range_with_len, list_all, AllByRecursion}
 use Rattle.std.proofs.lemmas.List.Sums.{sum_by-cons}
-use Rattle.std.proofs.lemmas.List.Elements.{All-from_recursion, recursion_from_All}
+use Rattle.std.proofs.lemmas.List.Elements.{All-filter, All-from_recursion, recursion_from_All}
 use Rattle.std.proofs.lemmas.Bool.{cases_eq}
 use Rattle.mk_states.specs.States.{states, numbers_below, plus_over, product_by}
 
@@ -154,6 +154,11 @@ pub each_weaker : {X : Type 0} (P Q : X → Type 0) → ((x : X) → P x → Q x
 each_weaker P Q f [] h = tt
 each_weaker P Q f (x ∷ xs) h = (f x h.0, each_weaker P Q f xs h.1)
 
+pub each_filtered : {X : Type 0} (P : X → Type 0) (p : X → Bool) (xs : List X)
+    → AllByRecursion P xs → AllByRecursion P (filter p xs)
+each_filtered P p xs h =
+    recursion_from_All P (filter p xs) (All-filter p P xs (All-from_recursion P xs h))
+
 pub each_both : {X : Type 0} (P Q : X → Type 0) (xs : List X) → AllByRecursion P xs → AllByRecursion Q xs → AllByRecursion (λ x. P x × Q x) xs
 each_both P Q [] h k = tt
 each_both P Q (x ∷ xs) h k = ((h.0, k.0), each_both P Q xs h.1 k.1)
@@ -177,6 +182,12 @@ list_all-append p (x ∷ xs) ys = ap (λ b. p x && b) (list_all-append p xs ys) 
 pub each_number : (P : ℕ → Type 0) (n a : ℕ) → ((u : ℕ) → a ≤ u → u < a + n → P u) → AllByRecursion P (range_with_len a n)
 each_number P zero a h = tt
 each_number P (suc n) a h = (h a (le_refl a) (omega arith), each_number P n (a + 1) (λ u p q. h u (omega arith) (omega arith)))
+
+-- those of some numbers in a row that pass a test are below their end
+pub each_below : (p : ℕ → Bool) (a n : ℕ)
+    → AllByRecursion (λ k. k < a + n) (filter p (range_with_len a n))
+each_below p a n = each_filtered (λ k. k < a + n) p (range_with_len a n)
+    (each_number (λ k. k < a + n) n a (λ k from to. to))
 
 pub each-map : {X Y : Type 0} (P : X → Type 0) (f : Y → X) (ys : List Y) → AllByRecursion (λ y. P (f y)) ys → AllByRecursion P (map f ys)
 each-map P f [] h = tt

@@ -47,7 +47,7 @@ sum_has set (suc k) w j p q h = at (cases_eq j (suc k)) (λ l. sum_has set k w j
     at (inr d) ih = let l : w j ≤ sum_of set k w = ih (omega arith) in omega (arith, l)
 
 module _ (link : ℕ → ℕ) (m : ℕ) (links : Links link m) where
-  sides_add : (w : ℕ → ℕ) (a b : ℕ) → linked link m a b ≡ true → sum_of (behind link m a b) m w ≡ w a + sum_of (linked_but link m a b) m (λ i. sum_of (behind link m i a) m w)
+  pub sides_add : (w : ℕ → ℕ) (a b : ℕ) → linked link m a b ≡ true → sum_of (behind link m a b) m w ≡ w a + sum_of (linked_but link m a b) m (λ i. sum_of (behind link m i a) m w)
   sides_add w a b h =
       same_power _ _
       (sym (power_of (behind link m a b) m w (λ x. 0))
@@ -73,7 +73,7 @@ module _ (link : ℕ → ℕ) (m : ℕ) (links : Links link m) where
       (λ i p. one_side placed_number cell_number i a (are_linked link m i a (and_parts (linked link m i a) (not (eqb i b)) p).0)) in
       omega (arith, e, f)
 
-  all_add : (w : ℕ → ℕ) (a : ℕ) → 1 ≤ a → a ≤ m → sum_of (λ j. true) m w ≡ w a + sum_of (linked_to link m a) m (λ i. sum_of (behind link m i a) m w)
+  pub all_add : (w : ℕ → ℕ) (a : ℕ) → 1 ≤ a → a ≤ m → sum_of (λ j. true) m w ≡ w a + sum_of (linked_to link m a) m (λ i. sum_of (behind link m i a) m w)
   all_add w a first last =
       same_power _ _
       (sym (power_of (λ j. true) m w (λ x. 0))

@@ -1,5 +1,5 @@
 -- Every sum in a tree is at most the sum, over the list of all states, of the product of all factors.
-use Rattle.std.proofs.Common.{◌≡◌, ℕ, ◌+◌, ◌*◌, ◌≤◌, Bool, true, false, cond, ◌&&◌, eqb, List, [], ◌∷◌, ◌++◌, slice_index, All, sym, ap, subst, ◌∙◌, le_refl, mul-one}
+use Rattle.std.proofs.Common.{◌≡◌, ℕ, ◌+◌, ◌*◌, ◌≤◌, Bool, true, false, cond, ◌&&◌, eqb, List, [], ◌∷◌, ◌++◌, slice_index, sym, ap, subst, ◌∙◌, le_refl, mul-one}
 use Rattle.std.proofs.Math.Path.{fun_ext}
 use Rattle.std.proofs.Math.Nat.{mul-le-mul, one-le-mul}
 use Rattle.std.specs.List.{AllByRecursion}
@@ -12,6 +12,7 @@ use Rattle.mk_sums.specs.Sums.{over, listed}
 use Rattle.mk_sums.specs.Trees.{times_of, held}
 use Rattle.mk_sums.specs.Cells.{InRange}
 use Rattle.mk_sums.specs.Joint.{Item, placed_in, IsItem, variables}
+use Rattle.mk_sums.specs.Laws.{SmallCase}
 use Rattle.mk_sums.proofs.Sets.{times_within}
 use Rattle.mk_sums.proofs.Sides.{holder}
 use Rattle.mk_sums.proofs.States.{states_nest}
@@ -41,14 +42,7 @@ with_known factors known h j t =
     subst (λ n. n ≤ placed_in factors j t) (sym (product_by-append (λ (i : Item). cond (eqb i.clique j) (i.value t) 1) factors known))
     (subst (λ n. placed_in factors j t * placed_in known j t ≤ n) (mul-one (placed_in factors j t)) (mul-le-mul (le_refl (placed_in factors j t)) (known_at_most known h j t)))
 
-pub small_case : (sizes : List ℕ) (clique : ℕ → ℕ → Bool) (factors known : List Item) (m : ℕ)
-    → All (IsItem m clique) factors
-    → ((k x : ℕ) → 1 ≤ k → k ≤ m → clique k x ≡ true → listed (variables sizes) x ≡ true)
-    → All (λ (i : Item). (t : ℕ → ℕ) → InRange (slice_index sizes) (variables sizes) t → 1 ≤ i.value t) factors
-    → All (λ (i : Item). (t : ℕ → ℕ) → i.value t ≤ 1) known
-    → (variables_of cliques_of : ℕ → Bool) (s : ℕ → ℕ) → InRange (slice_index sizes) (variables sizes) s
-    → over ◌+◌ (slice_index sizes) variables_of (variables sizes) (times_of cliques_of m (placed_in (factors ++ known))) s
-    ≤ plus_over ◌+◌ 0 (λ (t : List ℕ). product_by (λ (i : Item). i.value (value_at t)) factors) (states sizes)
+pub small_case : SmallCase
 small_case sizes clique factors known m fits lists least most variables_of cliques_of s r =
     subst (λ n. over ◌+◌ (slice_index sizes) variables_of (variables sizes) (times_of cliques_of m (placed_in (factors ++ known))) s ≤ n) all
     (sums_bound ◌+◌ (slice_index sizes) (variables sizes) (placed_in (factors ++ known)) (placed_in factors) m sums_lawful

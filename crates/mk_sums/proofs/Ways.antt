@@ -10,6 +10,12 @@ use Rattle.mk_sums.proofs.Sides.{leaves}
 abbrev one_if : Bool → ℕ
 one_if b = cond b 1 0
 
+one_if_grows : (b c : Bool) → (b ≡ true → c ≡ true) → one_if b ≤ one_if c
+one_if_grows true true e = omega arith
+one_if_grows true false e = absurd (both_ways false refl (e refl))
+one_if_grows false true e = omega arith
+one_if_grows false false e = omega arith
+
 -- how many of the cliques 1 to m are in a set
 abbrev count : (ℕ → Bool) → ℕ → ℕ
 count s m = sum_of s m (λ j. 1)
@@ -18,25 +24,13 @@ count_at_most : (s t : ℕ → Bool) (m : ℕ) → ((j : ℕ) → 1 ≤ j → j 
 count_at_most s t zero h = omega arith
 count_at_most s t (suc k) h =
     let p = count_at_most s t k (λ j p q. h j p (omega arith)) in
-    let q = at (s (suc k)) (t (suc k)) (h (suc k) (omega arith) (omega arith)) in
+    let q = one_if_grows (s (suc k)) (t (suc k)) (h (suc k) (omega arith) (omega arith)) in
     omega (arith, p, q)
-  where
-    at : (b c : Bool) → (b ≡ true → c ≡ true) → one_if b ≤ one_if c
-    at true true e = omega arith
-    at true false e = absurd (both_ways false refl (e refl))
-    at false true e = omega arith
-    at false false e = omega arith
 
 count_less : (s t : ℕ → Bool) (m j : ℕ) → ((i : ℕ) → 1 ≤ i → i ≤ m → s i ≡ true → t i ≡ true) → 1 ≤ j → j ≤ m → t j ≡ true → s j ≡ false → count s m < count t m
 count_less s t zero j h p q e f = absurd (omega arith)
 count_less s t (suc k) j h p q e f = at (cases_eq j (suc k)) (λ l. count_less s t k j (λ i u v. h i u (omega arith)) p l e f) (count_at_most s t k (λ i u v. h i u (omega arith)))
   where
-    more : (b c : Bool) → (b ≡ true → c ≡ true) → one_if b ≤ one_if c
-    more true true e = omega arith
-    more true false e = absurd (both_ways false refl (e refl))
-    more false true e = omega arith
-    more false false e = omega arith
-
     at : ((j ≡ suc k) ⊎ (j ≡ suc k → ⊥)) → (j ≤ k → count s k < count t k) → count s k ≤ count t k → count s k + one_if (s (suc k)) < count t k + one_if (t (suc k))
     at (inl g) ih l =
         let u : one_if (s (suc k)) ≡ 0 = ap (λ b. one_if b) (ap s (sym g) ∙ f) in
@@ -44,7 +38,7 @@ count_less s t (suc k) j h p q e f = at (cases_eq j (suc k)) (λ l. count_less s
         omega (arith, u, v)
     at (inr d) ih l =
         let u : count s k < count t k = ih (omega arith) in
-        let v = more (s (suc k)) (t (suc k)) (h (suc k) (omega arith) (omega arith)) in
+        let v = one_if_grows (s (suc k)) (t (suc k)) (h (suc k) (omega arith) (omega arith)) in
         omega (arith, u, v)
 
 count_all : (m : ℕ) → count (λ j. true) m ≡ m

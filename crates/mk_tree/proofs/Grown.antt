@@ -8,11 +8,12 @@ use Rattle.std.proofs.lemmas.List.{map-id, get_or_append_left, get_or_push, leng
 use Rattle.std.proofs.lemmas.List.FromFn.{map-range_with_len_more}
 use Rattle.std.proofs.lemmas.List.Elements.{All-from_recursion, recursion_from_All, All-push}
 use Rattle.std.proofs.lemmas.List.Elements.{All-weaker, All-get_or, filter-append}
+use Rattle.std.proofs.lemmas.List.Folds.{list_any-append}
 use Rattle.std.proofs.lemmas.List.Sums.{sum_by_push}
 use Rattle.mk_sets.specs.Sets.{VarSet, is_member, no_variables}
 use Rattle.mk_net.specs.Network.{Variable, sizes, choices}
 use Rattle.mk_states.specs.States.{numbers_below}
-use Rattle.mk_states.proofs.Sums.{each_number, each_weaker, sum_by_each}
+use Rattle.mk_states.proofs.Sums.{each_filtered, each_number, each_weaker, sum_by_each}
 use Rattle.mk_sums.specs.Trees.{Links, Running}
 use Rattle.mk_tree.specs.Given.{GivenTree, AreLinked, AreOfNetwork, clique_at, holds, link_of}
 use Rattle.mk_tree.specs.Tests.{holds_family, is_covered, members, cells_of}
@@ -27,26 +28,9 @@ numbers_more n = sym (map-id (numbers_below (n + 1)))
     ∙ map-range_with_len_more (λ k. k) 0 n n (omega arith)
     ∙ ap (λ ks. ks ++ n ∷ []) (map-id (numbers_below n))
 
-each_filtered : {X : Type 0} (P : X → Type 0) (p : X → Bool) (xs : List X) → AllByRecursion P xs
-    → AllByRecursion P (filter p xs)
-each_filtered P p [] h = tt
-each_filtered P p (x ∷ xs) h = at (p x) (each_filtered P p xs h.1)
-  where
-    at : (b : Bool) → AllByRecursion P (filter p xs)
-        → AllByRecursion P (cond b (x ∷ filter p xs) (filter p xs))
-    at true k = (h.0, k)
-    at false k = k
-
 any_left : {X : Type 0} (test : X → Bool) (xs more : List X) → list_any test xs ≡ true
     → list_any test (xs ++ more) ≡ true
-any_left test [] more h = absurd (cc)
-any_left test (x ∷ xs) more h = at (test x) h (any_left test xs more)
-  where
-    at : (b : Bool) → (b || list_any test xs) ≡ true
-        → (list_any test xs ≡ true → list_any test (xs ++ more) ≡ true)
-        → (b || list_any test (xs ++ more)) ≡ true
-    at true h later = refl
-    at false h later = later h
+any_left test xs more h = list_any-append test xs more ∙ ap (λ b. b || list_any test more) h
 
 any_last : {X : Type 0} (test : X → Bool) (xs : List X) (y : X) → test y ≡ true
     → list_any test (xs ++ y ∷ []) ≡ true

@@ -1,17 +1,16 @@
 -- A belief, once both passes were made.
 use Rattle.std.proofs.Common.{◌≡◌, ℕ, suc, zero, ◌+◌, ◌-◌, ◌*◌, ◌<◌, ◌≤◌, max, Bool, true, false, not}
-use Rattle.std.proofs.Common.{◌&&◌, eqb, List, [], ◌∷◌, Option, Some, map, length, take}
+use Rattle.std.proofs.Common.{◌&&◌, eqb, List, [], ◌∷◌, Option, Some, map, length}
 use Rattle.std.proofs.Common.{slice_index_or, sum_by, refl, sym, ap, subst, ◌∙◌, arith, eq-eqb}
 use Rattle.std.proofs.Common.{ne_eqb}
 use Rattle.std.proofs.lemmas.Bool.{and_from, not_from_false}
 use Rattle.std.proofs.lemmas.List.{length-map}
-use Rattle.std.proofs.lemmas.List.Sums.{sum_by_more}
 use Rattle.std.proofs.Math.Seq.{take-length}
 use Rattle.mk_net.specs.declared.words.Pair.{Pair}
 use Rattle.mk_sets.specs.Sets.{no_variables}
 use Rattle.mk_net.specs.Bounds.{number_limit}
 use Rattle.mk_states.specs.States.{plus_over}
-use Rattle.mk_sums.specs.Trees.{sum_of, linked_to}
+use Rattle.mk_sums.specs.Trees.{linked_to}
 use Rattle.mk_sums.proofs.Hops as hops
 use Rattle.mk_tree.specs.Given.{GivenTree, clique_at, link_of, holds_event}
 use Rattle.mk_tree.specs.Tests.{cells_of}
@@ -24,23 +23,13 @@ use Rattle.mk_plan.specs.Shapes.{ShapeOf, IsClique, are_linked, next_on_way, cli
 use Rattle.mk_propagate.specs.Placings.{Placing, PlacedFactor, PlacedPair, meaning_of}
 use Rattle.mk_propagate.specs.Flows.{HasPlaced, AreRightInto, CanRead, IsReading, all_cells, reading_grade, counted_on}
 use Rattle.mk_plan.proofs.Scopes.{clique_counted}
+use Rattle.mk_propagate.proofs.Grading.{sum_of_first}
 use Rattle.mk_tree_engine.specs.Engines.{MarkedFlow, HasTree, ClearsTowards, is_stale, leads_towards, placing_of, factor_home, pair_home, stale_number}
 use Rattle.mk_tree_engine.specs.inner.Marks.{AreMarksOf, AreCurrentTowards, IsMarked}
 use Rattle.mk_tree_engine.specs.inner.Passes.{AreCurrent, AreCollected, CanCollect, IsCount}
 use Rattle.mk_tree_engine.proofs.Sums.{sum_same}
 
 -- ---- grades
-
-sum_of_first : {X : Type 0} (f : X → ℕ) (xs : List X) (d : X) (n : ℕ) → n ≤ length xs → sum_of (λ j. true) n (λ j. f (slice_index_or xs (j - 1) d)) ≡ sum_by f (take n xs)
-sum_of_first f xs d zero h = refl
-sum_of_first f xs d (suc n) h =
-    let ih = sum_of_first f xs d n (omega arith) in
-    let l : n < length xs = omega arith in
-    let e : suc n - 1 ≡ n = omega arith in
-    let g : f (slice_index_or xs (suc n - 1) d) ≡ f (slice_index_or xs n d) = ap (λ i. f (slice_index_or xs i d)) e in
-    let q = sum_by_more f xs n d l in
-    let s : suc n ≡ n + 1 = omega arith in
-    ap (λ k. k + f (slice_index_or xs (suc n - 1) d)) ih ∙ ap (λ k. sum_by f (take n xs) + k) g ∙ sym q ∙ ap (λ k. sum_by f (take k xs)) (sym s)
 
 -- what is listed is at most the greatest
 at_most_greatest : {X : Type 0} (f : X → ℕ) (xs : List X) (i : ℕ) (d : X) → i < length xs

@@ -15,7 +15,8 @@ use Rattle.mk_cell.specs.Least.{least}
 use Rattle.mk_engine.specs.Meaning.{Meaning, ArePairsOf, opening}
 use Rattle.mk_plan.specs.Shapes.{ShapeOf, IsShapeFor, IsClique, clique_scope}
 use Rattle.mk_plan.proofs.Scopes.{sized_within}
-use Rattle.mk_plan.proofs.Required.{same_sizes, pair_same, ratio_same, all_pass}
+use Rattle.mk_states.proofs.Alike.{pair_same, ratio_same}
+use Rattle.mk_plan.proofs.Required.{same_sizes, all_pass}
 use Rattle.mk_user_engine.specs.declared.engine.UserEngine.{UserEngine}
 use Rattle.mk_tree_engine.specs.Engines.{HasTree}
 use Rattle.mk_user_engine.specs.declared.narrow.Narrow.{Narrow}

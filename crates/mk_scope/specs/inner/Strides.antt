@@ -1,6 +1,7 @@
 -- Cells that are found by strides: variable by variable, the last first.
-use Rattle.std.specs.Prelude.{◌≡◌, ℕ, ◌+◌, ◌-◌, ◌*◌, ◌≤◌, Bool, not, ◌||◌, ◌==◌, if◌then◌else◌, List, [], ◌∷◌, map, filter, length, drop}
+use Rattle.std.specs.Prelude.{◌≡◌, ℕ, ◌+◌, ◌-◌, ◌*◌, ◌<◌, ◌≤◌, Bool, not, ◌||◌, ◌==◌, if◌then◌else◌, List, [], ◌∷◌, map, filter, length, drop, All}
 use Rattle.std.specs.List.{flat_map, list_all}
+use Rattle.mk_net.specs.Bounds.{max_clique_cells}
 use Rattle.mk_net.specs.declared.words.Pair.{Pair}
 use Rattle.mk_states.specs.States.{numbers_below}
 use Rattle.mk_sums.specs.Cells.{cells}
@@ -9,6 +10,13 @@ use Rattle.mk_scope.specs.Scopes.{ScopeOf, size_in, has_variable}
 -- some numbers, a stride further on for each of some values
 abbrev pub repeated : ℕ → List ℕ → List ℕ → List ℕ
 repeated stride values low = flat_map (λ v. map (λ c. v * stride + c) low) values
+
+-- they lie within a stride, and that many strides fit in a table
+pub record MayRepeat (stride size : ℕ) (low : List ℕ) : Type 0 where
+  pub below : All (λ c. c < stride) low
+  pub few : length low ≤ stride
+  pub fits : size * stride ≤ max_clique_cells
+  pub some : 1 ≤ size
 
 -- the cells that give each variable one of the values that it may have
 abbrev pub cells_with : (ℕ → ℕ) → (ℕ → List ℕ) → List ℕ → List ℕ

@@ -1,10 +1,10 @@
-use Rattle.std.proofs.Common.{◌≡◌, ℕ, ◌<◌, ◌&&◌, ◌||◌, List, length, take, slice_index_or, get_or, sym, ap, subst, ◌∙◌, arith}
+use Rattle.std.proofs.Common.{◌≡◌, ℕ, ◌<◌, ◌&&◌, ◌||◌, List, length, take, get_or, sym, ap, subst, ◌∙◌, arith}
 use Rattle.std.proofs.Math.Seq.{take-length}
 use Rattle.std.specs.List.{list_any}
 use Rattle.mk_sets.specs.Sets.{VarSet, is_member}
 use Rattle.mk_tree.specs.Given.{GivenTree, holds}
 use Rattle.mk_plan.specs.Shapes.{neighbours}
-use Rattle.mk_plan.proofs.Cores.{around_more, neighbour_is}
+use Rattle.mk_plan.proofs.Cores.{around_more, listed_is}
 use Rattle.mk_plan.proofs.shape.core_of.Goals as goal
 
 -- the place of a neighbour in the list
@@ -12,14 +12,10 @@ within : (tree : GivenTree) (k j : ℕ) (items : List ℕ) → items ≡ neighbo
 within tree k j items e l = subst (λ (xs : List ℕ). j < length xs) e l
 
 pub clique-requires-clause-first : goal.clique-requires-clause-first
-clique-requires-clause-first c =
-    let tree = c.args.tree.now in let j = c.loop-neighbour.neighbour-index in
-    (neighbour_is tree c.cliques.ensures.linked c.args.k j _ (within tree c.args.k j c.args.linked.now c.requires.linked c.loop-neighbour-test.true) (ap (λ (xs : List ℕ). slice_index_or xs j 0) c.requires.linked)).first
+clique-requires-clause-first c = (listed_is c.args.tree.now c.cliques.ensures.linked c.args.k _ _ c.requires.linked c.loop-neighbour-test.true).first
 
 pub clique-requires-clause-last : goal.clique-requires-clause-last
-clique-requires-clause-last c =
-    let tree = c.args.tree.now in let j = c.loop-neighbour.neighbour-index in
-    (neighbour_is tree c.cliques.ensures.linked c.args.k j _ (within tree c.args.k j c.args.linked.now c.requires.linked c.loop-neighbour-test.true) (ap (λ (xs : List ℕ). slice_index_or xs j 0) c.requires.linked)).last
+clique-requires-clause-last c = (listed_is c.args.tree.now c.cliques.ensures.linked c.args.k _ _ c.requires.linked c.loop-neighbour-test.true).last
 
 pub loop-neighbour-init : goal.loop-neighbour-init
 loop-neighbour-init c = c.empty-around.ensures.members

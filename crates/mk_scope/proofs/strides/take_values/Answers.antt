@@ -6,7 +6,9 @@ use Rattle.mk_scope.proofs.strides.take_values.Goals as goal
 
 pub move_all-requires : goal.move_all-requires
 move_all-requires c =
-    All-weaker (λ k. k < c.args.stride) (λ k. c.in-Some.value * c.args.stride + k < 4096) (λ k l. moved_below c.in-Some.value c.args.size c.args.stride k c.if-value-size.true l c.requires.fits) c.args.cells.now.items c.requires.below
+    All-weaker (λ k. k < c.args.stride) (λ k. c.in-Some.value * c.args.stride + k < 4096)
+    (λ k l. moved_below c.in-Some.value c.args.size c.args.stride k c.if-value-size.true l
+    c.requires.repeatable.fits) c.args.cells.now.items c.requires.repeatable.below
 
 pub returns-in-None : goal.returns-in-None
 returns-in-None c = c.repeat.ensures ∙ sym (repeated_each (lets c.args.pairs.now c.args.variable) c.args.stride c.args.size c.args.cells.now.items (c.in-None.ensures).none)

@@ -4,7 +4,8 @@ use Rattle.mk_scope.specs.Cells.{values_at}
 use Rattle.mk_table.specs.Lists.{table_in}
 use Rattle.mk_joint.specs.inner.Joints.{joint_there}
 use Rattle.mk_joint.proofs.Cells.{has_all}
-use Rattle.mk_joint.proofs.Tables.{same_sizes, pair_same, known_more, still_one}
+use Rattle.mk_states.proofs.Alike.{pair_same}
+use Rattle.mk_joint.proofs.Tables.{same_sizes, known_more, still_one}
 use Rattle.mk_joint.proofs.joint.JointEngineEngine.know.Goals as goal
 
 pub restrict-requires-clause-variable : goal.restrict-requires-clause-variable

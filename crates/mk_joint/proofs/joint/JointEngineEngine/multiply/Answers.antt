@@ -4,7 +4,8 @@ use Rattle.mk_scope.specs.Cells.{values_at}
 use Rattle.mk_table.specs.Lists.{table_in}
 use Rattle.mk_engine.specs.Meaning.{RatioOf}
 use Rattle.mk_joint.specs.inner.Joints.{joint_there}
-use Rattle.mk_joint.proofs.Tables.{same_sizes, ratio_same, has_event, has_one_each, pairs_of_ratio}
+use Rattle.mk_states.proofs.Alike.{ratio_same}
+use Rattle.mk_joint.proofs.Tables.{same_sizes, has_event, has_one_each, pairs_of_ratio}
 use Rattle.mk_joint.proofs.Tables.{has_room, factor_more, ratio_more, still_one}
 use Rattle.mk_joint.proofs.joint.JointEngineEngine.multiply.Goals as goal
 

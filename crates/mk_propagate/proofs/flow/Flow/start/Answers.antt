@@ -1,4 +1,5 @@
 use Rattle.std.proofs.Common.{rules, ◌≡◌, refl, sym, subst, length}
+use Rattle.mk_propagate.proofs.Calls.{flow_over}
 use Rattle.mk_propagate.proofs.Placed.{starts_kept, starts_over}
 use Rattle.mk_propagate.specs.declared.gathered.Gathered.{Gathered}
 use Rattle.mk_propagate.specs.declared.gathered.Gathered.TheVariants.{Nothing}
@@ -20,16 +21,8 @@ invariant_of-result-2 g c =
     let same : c.in_ok-clone.field-0.value ≡ c.deref-of.result.now = search rules in
     let long_of : c.cliques-2.result ≡ length c.deref-of.result.now.tree.cliques = search rules in
     let all = c.in_ok-vec.ensures.items_if_clones_equal (λ y h. h) in
-    subst (λ (b : BoardOf). IsFlow g.R.Semiring.plus_of (record {
-      shape = c.in_ok-clone.field-0.value;
-      tables = b.tables;
-      cores = b.cores;
-      summed = c.in_ok-vec.field-0.items;
-      upward = b.upward;
-      downward = b.downward;
-      factors = 0;
-      computed = 0;
-    })
+    subst (λ (b : BoardOf). IsFlow g.R.Semiring.plus_of
+    (flow_over c.in_ok-clone.field-0.value c.in_ok-vec.field-0.items 0 0 b)
     b.products c.in_ok-vec-2.field-0.items c.count_cells.result) (sym c.board.view_is)
     (record {
       kept =
@@ -52,16 +45,8 @@ returns-clause-placed g c = λ network fits.
     let given : c.args.shape.now.value ≡ c.deref-of.result.now = search rules in
     let long_of : c.cliques-2.result ≡ length c.deref-of.result.now.tree.cliques = search rules in
     let all = c.in_ok-vec.ensures.items_if_clones_equal (λ y h. h) in
-    subst (λ (b : BoardOf). HasPlaced g.R.Semiring.plus_of (record {
-      shape = c.in_ok-clone.field-0.value;
-      tables = b.tables;
-      cores = b.cores;
-      summed = c.in_ok-vec.field-0.items;
-      upward = b.upward;
-      downward = b.downward;
-      factors = 0;
-      computed = 0;
-    })
+    subst (λ (b : BoardOf). HasPlaced g.R.Semiring.plus_of
+    (flow_over c.in_ok-clone.field-0.value c.in_ok-vec.field-0.items 0 0 b)
     (nothing_placed network)) (sym c.board.view_is)
     (starts_over g.R.Semiring.plus_of _ c.deref-of.result.now c.args.shape.now.value same given
     c.in_ok-board.ensures.tables

@@ -1,78 +1,47 @@
-use Rattle.std.proofs.Common.{◌≡◌, ◌+◌, ◌-◌, ◌<◌, List, length, drop, filter, arith, ap, subst, ◌∙◌, sym}
+use Rattle.std.proofs.Common.{List, filter, arith, ap, subst, ◌∙◌, sym}
 use Rattle.mk_states.specs.States.{numbers_below}
-use Rattle.mk_scope.specs.Scopes.{ScopeOf, IsScope, size_in}
+use Rattle.mk_scope.specs.Scopes.{ScopeOf, IsScope}
 use Rattle.mk_net.specs.declared.words.Pair.{Pair}
-use Rattle.mk_scope.specs.inner.Strides.{repeated, cells_with, lets, values_let}
+use Rattle.mk_scope.specs.inner.Strides.{repeated, lets, values_let}
 use Rattle.mk_scope.specs.Runs.{runs_of}
-use Rattle.mk_scope.proofs.Listed.{values_of_event, cells_of_event}
-use Rattle.mk_scope.proofs.Ready.{ready_runs, tail_some}
+use Rattle.mk_scope.proofs.Listed.{ready_kept, values_of_event, cells_of_event}
+use Rattle.mk_scope.proofs.Ready.{HasReadyRuns, ready_runs, tail_some, all_passed}
 use Rattle.mk_scope.proofs.Runs.{runs_first}
 use Rattle.mk_scope.proofs.scope.Scope.firsts_where.Goals as goal
+use Rattle.mk_scope.proofs.scope.Scope.firsts_where.Goals.{After-index-in-loop-passed}
 
-pub take_values-requires-clause-below : goal.take_values-requires-clause-below
-take_values-requires-clause-below c =
-    let scope = c.args.self.now in let kept = c.self.inside in let run = c.args.tail.cells in
-    let l : c.loop-passed.passed < length kept.variables.items = omega (arith, kept.variables.ok.0, c.loop-passed-test.true) in
-    let place = c.len.result - 1 - c.loop-passed.passed in
-    let p : place + 1 + c.loop-passed.passed ≡ length kept.variables.items = omega (arith, kept.variables.ok.0, l) in
-    let some = tail_some scope (subst (λ (s : ScopeOf). IsScope s) c.self.view_is c.self.invariant.scope_is) (values_let scope c.args.event.now) c.args.tail.variables run c.requires.tail in
-    let r = ready_runs _ scope c.self.invariant.scope_is c.self.view_is (values_let scope c.args.event.now) (values_of_event scope c.args.event.now) run some c.loop-passed.passed place c.index.result.now c.index-in-loop-passed.result.now c.loop-passed.stride c.loop-passed.firsts.items
-    l p c.index.ensures c.index-in-loop-passed.ensures c.loop-passed.invariant.stride c.loop-passed.invariant.cells in
-    r.below
+ready : (c : After-index-in-loop-passed) →
+    HasReadyRuns c.args.self.now (values_let c.args.self.now c.args.event.now)
+    c.args.tail.cells c.loop-passed.passed
+    c.index.result.now c.index-in-loop-passed.result.now
+    c.loop-passed.stride c.loop-passed.firsts.items
+ready c =
+    let scope = c.args.self.now in
+    let is = subst (λ (s : ScopeOf). IsScope s) c.self.view_is c.self.invariant.scope_is in
+    let values = values_let c.args.self.now c.args.event.now in
+    ready_runs scope values c.args.tail.cells
+    (tail_some scope is values c.args.tail.variables c.args.tail.cells c.requires.tail)
+    c.loop-passed.passed _ _ _ _
+    (ready_kept _ scope c.self.invariant.scope_is c.self.view_is values
+    (values_of_event scope c.args.event.now)
+    c.len.result c.loop-passed.passed _ _ _ _
+    (omega (arith, c.self.inside.variables.ok.0))
+    (omega (arith, c.self.inside.variables.ok.0, c.loop-passed-test.true))
+    c.index.ensures c.index-in-loop-passed.ensures
+    c.loop-passed.invariant.stride c.loop-passed.invariant.cells)
 
-pub take_values-requires-clause-few : goal.take_values-requires-clause-few
-take_values-requires-clause-few c =
-    let scope = c.args.self.now in let kept = c.self.inside in let run = c.args.tail.cells in
-    let l : c.loop-passed.passed < length kept.variables.items = omega (arith, kept.variables.ok.0, c.loop-passed-test.true) in
-    let place = c.len.result - 1 - c.loop-passed.passed in
-    let p : place + 1 + c.loop-passed.passed ≡ length kept.variables.items = omega (arith, kept.variables.ok.0, l) in
-    let some = tail_some scope (subst (λ (s : ScopeOf). IsScope s) c.self.view_is c.self.invariant.scope_is) (values_let scope c.args.event.now) c.args.tail.variables run c.requires.tail in
-    let r = ready_runs _ scope c.self.invariant.scope_is c.self.view_is (values_let scope c.args.event.now) (values_of_event scope c.args.event.now) run some c.loop-passed.passed place c.index.result.now c.index-in-loop-passed.result.now c.loop-passed.stride c.loop-passed.firsts.items
-    l p c.index.ensures c.index-in-loop-passed.ensures c.loop-passed.invariant.stride c.loop-passed.invariant.cells in
-    r.few
-
-pub take_values-requires-clause-fits : goal.take_values-requires-clause-fits
-take_values-requires-clause-fits c =
-    let scope = c.args.self.now in let kept = c.self.inside in let run = c.args.tail.cells in
-    let l : c.loop-passed.passed < length kept.variables.items = omega (arith, kept.variables.ok.0, c.loop-passed-test.true) in
-    let place = c.len.result - 1 - c.loop-passed.passed in
-    let p : place + 1 + c.loop-passed.passed ≡ length kept.variables.items = omega (arith, kept.variables.ok.0, l) in
-    let some = tail_some scope (subst (λ (s : ScopeOf). IsScope s) c.self.view_is c.self.invariant.scope_is) (values_let scope c.args.event.now) c.args.tail.variables run c.requires.tail in
-    let r = ready_runs _ scope c.self.invariant.scope_is c.self.view_is (values_let scope c.args.event.now) (values_of_event scope c.args.event.now) run some c.loop-passed.passed place c.index.result.now c.index-in-loop-passed.result.now c.loop-passed.stride c.loop-passed.firsts.items
-    l p c.index.ensures c.index-in-loop-passed.ensures c.loop-passed.invariant.stride c.loop-passed.invariant.cells in
-    r.fits
-
-pub take_values-requires-clause-some : goal.take_values-requires-clause-some
-take_values-requires-clause-some c =
-    let scope = c.args.self.now in let kept = c.self.inside in let run = c.args.tail.cells in
-    let l : c.loop-passed.passed < length kept.variables.items = omega (arith, kept.variables.ok.0, c.loop-passed-test.true) in
-    let place = c.len.result - 1 - c.loop-passed.passed in
-    let p : place + 1 + c.loop-passed.passed ≡ length kept.variables.items = omega (arith, kept.variables.ok.0, l) in
-    let some = tail_some scope (subst (λ (s : ScopeOf). IsScope s) c.self.view_is c.self.invariant.scope_is) (values_let scope c.args.event.now) c.args.tail.variables run c.requires.tail in
-    let r = ready_runs _ scope c.self.invariant.scope_is c.self.view_is (values_let scope c.args.event.now) (values_of_event scope c.args.event.now) run some c.loop-passed.passed place c.index.result.now c.index-in-loop-passed.result.now c.loop-passed.stride c.loop-passed.firsts.items
-    l p c.index.ensures c.index-in-loop-passed.ensures c.loop-passed.invariant.stride c.loop-passed.invariant.cells in
-    r.some
+pub take_values-requires-clause-repeatable : goal.take_values-requires-clause-repeatable
+take_values-requires-clause-repeatable c =
+    (ready (goal.at.take_values-requires-clause-repeatable c).After-index-in-loop-passed).may_repeat
 
 pub overflow_mul-stride : goal.overflow_mul-stride
 overflow_mul-stride c =
-    let scope = c.args.self.now in let kept = c.self.inside in let run = c.args.tail.cells in
-    let l : c.loop-passed.passed < length kept.variables.items = omega (arith, kept.variables.ok.0, c.loop-passed-test.true) in
-    let place = c.len.result - 1 - c.loop-passed.passed in
-    let p : place + 1 + c.loop-passed.passed ≡ length kept.variables.items = omega (arith, kept.variables.ok.0, l) in
-    let some = tail_some scope (subst (λ (s : ScopeOf). IsScope s) c.self.view_is c.self.invariant.scope_is) (values_let scope c.args.event.now) c.args.tail.variables run c.requires.tail in
-    let r = ready_runs _ scope c.self.invariant.scope_is c.self.view_is (values_let scope c.args.event.now) (values_of_event scope c.args.event.now) run some c.loop-passed.passed place c.index.result.now c.index-in-loop-passed.result.now c.loop-passed.stride c.loop-passed.firsts.items
-    l p c.index.ensures c.index-in-loop-passed.ensures c.loop-passed.invariant.stride c.loop-passed.invariant.cells in
-    let f = r.fits in omega (arith, f)
+    let r = ready (goal.at.overflow_mul-stride c).After-index-in-loop-passed in
+    omega (arith, r.may_repeat.fits)
 
 pub loop-passed-preserved : goal.loop-passed-preserved
 loop-passed-preserved c =
-    let scope = c.args.self.now in let kept = c.self.inside in let run = c.args.tail.cells in
-    let l : c.loop-passed.passed < length kept.variables.items = omega (arith, kept.variables.ok.0, c.loop-passed-test.true) in
-    let place = c.len.result - 1 - c.loop-passed.passed in
-    let p : place + 1 + c.loop-passed.passed ≡ length kept.variables.items = omega (arith, kept.variables.ok.0, l) in
-    let some = tail_some scope (subst (λ (s : ScopeOf). IsScope s) c.self.view_is c.self.invariant.scope_is) (values_let scope c.args.event.now) c.args.tail.variables run c.requires.tail in
-    let r = ready_runs _ scope c.self.invariant.scope_is c.self.view_is (values_let scope c.args.event.now) (values_of_event scope c.args.event.now) run some c.loop-passed.passed place c.index.result.now c.index-in-loop-passed.result.now c.loop-passed.stride c.loop-passed.firsts.items
-    l p c.index.ensures c.index-in-loop-passed.ensures c.loop-passed.invariant.stride c.loop-passed.invariant.cells in
+    let r = ready (goal.at.loop-passed-preserved c).After-index-in-loop-passed in
     let x = c.index-in-loop-passed.result.now in
     record {
       stride = r.next_stride;
@@ -90,7 +59,9 @@ loop-passed-init c = record {
 pub returns : goal.returns
 returns c =
     let scope = c.args.self.now in
-    let z : length scope.variables - c.loop-passed.passed ≡ 0 =
-    let e = ap (λ (s : ScopeOf). length s.variables) c.self.view_is in omega (arith, e, c.self.inside.variables.ok.0, c.loop-passed-test.false) in
-    c.loop-passed.invariant.cells ∙ ap (λ n. cells_with (size_in scope) (values_let scope c.args.event.now) (drop n scope.variables)) z
-    ∙ cells_of_event scope (subst (λ (s : ScopeOf). IsScope s) c.self.view_is c.self.invariant.scope_is) c.args.event.now c.requires.event
+    all_passed _ scope c.self.view_is (values_let scope c.args.event.now) c.loop-passed.passed _
+    (omega (arith, c.self.inside.variables.ok.0, c.loop-passed-test.false))
+    c.loop-passed.invariant.cells
+    ∙ cells_of_event scope
+    (subst (λ (s : ScopeOf). IsScope s) c.self.view_is c.self.invariant.scope_is)
+    c.args.event.now c.requires.event

@@ -1,46 +1,49 @@
-use Rattle.std.proofs.Common.{◌≡◌, ◌+◌, ◌-◌, ◌<◌, false, length, arith, subst, ◌∙◌, sym}
+use Rattle.std.proofs.Common.{◌≡◌, false, arith, subst, ◌∙◌, sym}
 use Rattle.mk_states.specs.States.{numbers_below}
 use Rattle.mk_scope.specs.Scopes.{ScopeOf, IsScope}
 use Rattle.mk_scope.specs.inner.Strides.{IsTail, values_moved}
-use Rattle.mk_scope.proofs.Listed.{ready_kept, values_of_moved}
-use Rattle.mk_scope.proofs.Ready.{none_tail, tail_next, tail_here, all_outside}
+use Rattle.mk_scope.proofs.Listed.{IsReady, ready_kept, values_of_moved}
+use Rattle.mk_scope.proofs.Ready.{none_tail, tail_next, all_outside}
 use Rattle.mk_scope.proofs.scope.Scope.tail_outside.Goals as goal
+use Rattle.mk_scope.proofs.scope.Scope.tail_outside.Goals.{After-index-in-loop-passed}
+
+ready : (c : After-index-in-loop-passed) →
+    IsReady c.args.self.now (values_moved c.args.self.now c.args.part.now false)
+    c.loop-passed.passed
+    c.index-in-loop-passed.result.now c.index.result.now
+    c.loop-passed.cells (numbers_below c.loop-passed.cells)
+ready c =
+    let scope = c.args.self.now in
+    let is = subst (λ (s : ScopeOf). IsScope s) c.self.view_is c.self.invariant.scope_is in
+    ready_kept _ scope c.self.invariant.scope_is c.self.view_is
+    (values_moved scope c.args.part.now false)
+    (values_of_moved scope c.args.part.now is false)
+    c.len.result c.loop-passed.passed _ _ _ _
+    (omega (arith, c.self.inside.variables.ok.0))
+    (omega (arith, c.self.inside.variables.ok.0, c.loop-passed-test.true))
+    c.index-in-loop-passed.ensures c.index.ensures
+    c.loop-passed.invariant.counted (sym c.loop-passed.invariant.free)
 
 pub overflow_mul-cells : goal.overflow_mul-cells
 overflow_mul-cells c =
-    let scope = c.args.self.now in let kept = c.self.inside in let count = c.loop-passed.cells in
-    let is = subst (λ (s : ScopeOf). IsScope s) c.self.view_is c.self.invariant.scope_is in
-    let l : c.loop-passed.passed < length kept.variables.items = omega (arith, kept.variables.ok.0, c.loop-passed-test.true) in
-    let place = c.len.result - 1 - c.loop-passed.passed in
-    let p : place + 1 + c.loop-passed.passed ≡ length kept.variables.items = omega (arith, kept.variables.ok.0, l) in
-    let r = ready_kept _ scope c.self.invariant.scope_is c.self.view_is (values_moved scope c.args.part.now false) (values_of_moved scope c.args.part.now is false) c.loop-passed.passed place c.index-in-loop-passed.result.now c.index.result.now count (numbers_below count)
-    l p c.index-in-loop-passed.ensures c.index.ensures c.loop-passed.invariant.counted (sym c.loop-passed.invariant.free) in
-    let f = r.fits in omega (arith, f)
+    omega (arith, (ready (goal.at.overflow_mul-cells c).After-index-in-loop-passed).may_repeat.fits)
 
 pub loop-passed-init : goal.loop-passed-init
-loop-passed-init c =
-    let none = none_tail c.args.self.now (values_moved c.args.self.now c.args.part.now false) in record { counted = none.counted; free = none.free }
+loop-passed-init c = none_tail c.args.self.now (values_moved c.args.self.now c.args.part.now false)
 
 pub loop-passed-preserved : goal.loop-passed-preserved
 loop-passed-preserved c =
-    let scope = c.args.self.now in let kept = c.self.inside in let count = c.loop-passed.cells in
-    let is = subst (λ (s : ScopeOf). IsScope s) c.self.view_is c.self.invariant.scope_is in
-    let l : c.loop-passed.passed < length kept.variables.items = omega (arith, kept.variables.ok.0, c.loop-passed-test.true) in
-    let place = c.len.result - 1 - c.loop-passed.passed in
-    let p : place + 1 + c.loop-passed.passed ≡ length kept.variables.items = omega (arith, kept.variables.ok.0, l) in
-    let r = ready_kept _ scope c.self.invariant.scope_is c.self.view_is (values_moved scope c.args.part.now false) (values_of_moved scope c.args.part.now is false) c.loop-passed.passed place c.index-in-loop-passed.result.now c.index.result.now count (numbers_below count)
-    l p c.index-in-loop-passed.ensures c.index.ensures c.loop-passed.invariant.counted (sym c.loop-passed.invariant.free) in
-    let x = c.index.result.now in
-    record {
-      counted = r.next_stride;
-      free = tail_next scope (values_moved scope c.args.part.now false) c.loop-passed.passed c.index-in-loop-passed.result.now x count r (all_outside scope c.args.part.now x count (sym c.has.ensures ∙ c.if-has.false));
-    }
+    let scope = c.args.self.now in let x = c.index.result.now in
+    tail_next scope (values_moved scope c.args.part.now false) _ _ x _
+    (ready (goal.at.loop-passed-preserved c).After-index-in-loop-passed)
+    (all_outside scope c.args.part.now x c.loop-passed.cells (sym c.has.ensures ∙ c.if-has.false))
 
 pub returns : goal.returns
 returns c =
-    let scope = c.args.self.now in
-    let n : c.len-2.result ≡ c.loop-passed.passed = let t = c.loop-passed-test.false in let u = c.loop-passed.auto.passed-end in let a = c.len-passed-end.ensures in let b = c.len-2.ensures in omega (arith, t, u, a, b) in
-    c.long_tail-2.ensures scope (values_moved scope c.args.part.now false)
-    (subst (λ k. IsTail scope (values_moved scope c.args.part.now false) k c.loop-passed.cells) (sym n)
-    (tail_here _ scope c.self.view_is (values_moved scope c.args.part.now false) c.loop-passed.passed c.loop-passed.cells (let t = c.loop-passed.auto.passed-end in let a = c.len-passed-end.ensures in omega (arith, t, a, c.self.inside.variables.ok.0))
-    c.loop-passed.invariant.counted c.loop-passed.invariant.free))
+    let n : c.len-2.result ≡ c.loop-passed.passed =
+    let t = c.loop-passed-test.false in let u = c.loop-passed.auto.passed-end in
+    omega (arith, t, u, c.len-passed-end.ensures, c.len-2.ensures) in
+    c.long_tail-2.ensures c.args.self.now (values_moved c.args.self.now c.args.part.now false)
+    (subst (λ k. IsTail c.args.self.now (values_moved c.args.self.now c.args.part.now false) k
+    c.loop-passed.cells) (sym n)
+    c.loop-passed.invariant)
