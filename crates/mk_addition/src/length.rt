@@ -1,6 +1,7 @@
 //! How long the text of an added question is.
 
 ghost use Rattle.std.specs.Prelude.{◌≡◌, ◌≤◌, length};
+ghost use Rattle.mk_net.specs.Bounds.{max_parents};
 ghost use Rattle.mk_addition.specs.Adds.{add_text, parents_text};
 
 use crate::add::AddText;
@@ -22,7 +23,7 @@ pub fn text_length(add: &AddText) -> u32
 }
 
 fn parents_length(parents: &[Name]) -> usize
-    requires { length parents.now ≤ 8 }
+    requires { length parents.now ≤ max_parents }
     ensures exact { result ≡ length (parents_text parents.now) }
     ensures few { result ≤ 267 }
 {

@@ -1,5 +1,6 @@
 -- Grades of sums, products and the lesser and the greater number.
-use Rattle.std.proofs.Common.{◌≡◌, ℕ, suc, ◌+◌, ◌*◌, ◌^◌, ◌<◌, ◌≤◌, min, max, sym, ◌∙◌, ⊎_elim, arith}
+use Rattle.std.proofs.Common.{◌≡◌, ℕ, suc, ◌+◌, ◌*◌, ◌^◌, ◌<◌, ◌≤◌, min, max, inl, inr, ◌⊎◌}
+use Rattle.std.proofs.Common.{sym, ◌∙◌, ⊎_elim, arith}
 use Rattle.std.proofs.lemmas.Bool.{cases_lt}
 use Rattle.std.proofs.Math.Nat.{mul-le-mul_right, pow-suc}
 use Rattle.mk_scaled.specs.Near.{IsNear, near_more, near_between}
@@ -30,19 +31,25 @@ near_sum a b c d g h l k =
     let j = near_more c d h (max g h) (omega arith) k in
     record { near = added a b c d ((2 ^ 60) ^ max g h) ((2 ^ 60 + 1) ^ max g h) i.near j.near }
 
-pub near_min : (a b c d g h : ℕ) → IsNear a b g → IsNear c d h → IsNear (min a c) (min b d) (max g h)
-near_min a b c d g h l k =
+-- what lies between the ends of one of two pairs is as near as both are
+near_either : (a b c d x y g h : ℕ) → IsNear a b g → IsNear c d h
+    → (a ≤ x) × (y ≤ b) ⊎ (c ≤ x) × (y ≤ d) → IsNear x y (max g h)
+near_either a b c d x y g h l k =
     ⊎_elim
-    (λ s. near_between a (min a c) (min b d) b (max g h) (omega arith) (omega arith) (near_more a b g (max g h) (omega arith) l))
-    (λ s. near_between c (min a c) (min b d) d (max g h) (omega arith) (omega arith) (near_more c d h (max g h) (omega arith) k))
-    (cases_lt a c)
+    (λ s. near_between a x y b (max g h) s.0 s.1 (near_more a b g (max g h) (omega arith) l))
+    (λ s. near_between c x y d (max g h) s.0 s.1 (near_more c d h (max g h) (omega arith) k))
 
-pub near_max : (a b c d g h : ℕ) → IsNear a b g → IsNear c d h → IsNear (max a c) (max b d) (max g h)
-near_max a b c d g h l k =
-    ⊎_elim
-    (λ s. near_between c (max a c) (max b d) d (max g h) (omega arith) (omega arith) (near_more c d h (max g h) (omega arith) k))
-    (λ s. near_between a (max a c) (max b d) b (max g h) (omega arith) (omega arith) (near_more a b g (max g h) (omega arith) l))
-    (cases_lt b d)
+pub near_min : (a b c d g h : ℕ) → IsNear a b g → IsNear c d h
+    → IsNear (min a c) (min b d) (max g h)
+near_min a b c d g h l k = near_either a b c d (min a c) (min b d) g h l k
+    (⊎_elim (λ s. inl (omega arith, omega arith)) (λ s. inr (omega arith, omega arith))
+    (cases_lt a c))
+
+pub near_max : (a b c d g h : ℕ) → IsNear a b g → IsNear c d h
+    → IsNear (max a c) (max b d) (max g h)
+near_max a b c d g h l k = near_either a b c d (max a c) (max b d) g h l k
+    (⊎_elim (λ s. inr (omega arith, omega arith)) (λ s. inl (omega arith, omega arith))
+    (cases_lt b d))
 
 -- a whole number below 2 ^ 63 is not rounded at either end
 pub both_exact : (a b x y : ℕ) → 1 ≤ a → a ≡ b → b < 2 ^ 63 → IsGreatestBelow x a → IsLeastAbove y b → x ≡ y

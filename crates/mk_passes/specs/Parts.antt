@@ -1,5 +1,6 @@
 -- Tables of cells, and which numbers their cells stand for.
 use Rattle.std.specs.Prelude.{◌≡◌, ℕ, ◌+◌, ◌^◌, ◌<◌, Bool, true, false, List, length, slice_index, ◌*◌, ◌≤◌, ◌⊎◌, All, take, drop}
+use Rattle.mk_net.specs.Bounds.{max_values}
 use Rattle.mk_cell.specs.Cell.{AllStand, StandsAt}
 use Rattle.mk_scope.specs.Scopes.{ScopeOf, cells_in}
 use Rattle.mk_states.specs.States.{plus_over}
@@ -67,7 +68,7 @@ pub record IsTimesCell (digits exponent other_digits other_exponent new_digits n
 
 -- the cells of the units of a ratio, one for each value of its variable, of 16 at most
 pub record AreUnitCells (units digits exponents : List ℕ) : Type 0 where
-  pub few : length units ≤ 16
+  pub few : length units ≤ max_values
   pub long : length digits ≡ 16
   pub long_too : length exponents ≡ 16
   pub stand : (v : ℕ) → v < length units → StandsAt 40 (slice_index digits v) (slice_index exponents v) (slice_index units v) 0

@@ -1,6 +1,7 @@
 //! Writing a reply.
 
 ghost use Rattle.std.specs.Prelude.{◌≡◌, ◌+◌, ◌*◌, ◌<◌, ◌≤◌, ◌++◌, length, codes, decimal};
+ghost use Rattle.mk_net.specs.Bounds.{max_payments};
 ghost use Rattle.mk_reply.specs.Below.{MAX_ANSWER_BYTES};
 ghost use Rattle.mk_reply.specs.Below.{array_string_len, items_text, price_text, range_text};
 ghost use Rattle.mk_reply.specs.Below.{limits_text, intervals_text, pair_text};
@@ -233,7 +234,7 @@ fn put_at(out: &mut Text, at: u64)
 }
 
 fn put_payments(out: &mut Text, payments: &[Payment])
-    requires few { length payments.now ≤ 256 }
+    requires few { length payments.now ≤ max_payments }
     requires room { array_string_len out.old + 26368 ≤ MAX_ANSWER_BYTES }
     ensures text { out.new.bytes ≡ out.old.bytes ++ items_text (codes ", ") payment_text payments.now }
     ensures growth { array_string_len out.new ≤ array_string_len out.old + 26368 }

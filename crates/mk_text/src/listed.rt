@@ -8,6 +8,9 @@ ghost use Rattle.mk_text.specs.Reading.{Finds, read_several, read_intervals, mor
 use crate::reader::Reader;
 use arrayvec::ArrayVec;
 
+/// What a short number is below: it has at most nine digits.
+const SHORT_END: u64 = 1_000_000_000;
+
 /// A thing of which a text may have several.
 pub trait Item: Copy + Default {
     ghost use Rattle.mk_text.specs.Reading.{Read};
@@ -28,7 +31,7 @@ impl Item for u32 {
 
     #[tactic(auto, unfolding(crate::specs::Reading::read_short))]
     fn next(reader: &mut Reader) -> Option<u32> {
-        let number = reader.number(1_000_000_000)?;
+        let number = reader.number(SHORT_END)?;
         Some(number as u32)
     }
 }

@@ -2,6 +2,7 @@
 //! it writes, and its clause `growth` says how much of that it takes at most.
 
 ghost use Rattle.std.specs.Prelude.{◌≡◌, ◌+◌, ◌^◌, ◌<◌, ◌≤◌, ◌++◌, length, All, IfSome, option_map, codes, decimal, IsUtf8};
+ghost use Rattle.mk_net.specs.Bounds.{max_condition};
 ghost use Rattle.mk_text.specs.Below.{array_string_len, max_values};
 ghost use Rattle.mk_text.specs.Joined.{items_text, spaced, AreSeveral};
 ghost use Rattle.mk_text.specs.Numbers.{places, IsShort, price_text, range_text, limits_text, interval_text, intervals_text};
@@ -72,7 +73,7 @@ pub fn put_pair<const N: usize>(out: &mut ArrayString<N>, pair: &PairText)
 
 /// Writes a condition with the bar before it, in at most 537 bytes, or nothing.
 pub fn put_condition<const N: usize>(out: &mut ArrayString<N>, pairs: &[PairText])
-    requires few { length pairs.now ≤ 8 }
+    requires few { length pairs.now ≤ max_condition }
     requires room { array_string_len out.old + 537 ≤ N }
     ensures text { out.new.bytes ≡ out.old.bytes ++ condition_text pairs.now }
     ensures growth { array_string_len out.new ≤ array_string_len out.old + 537 }

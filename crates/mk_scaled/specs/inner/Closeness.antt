@@ -1,5 +1,6 @@
 -- What directed rounding tells a caller: a representable result is exact, and any result is near.
-use Rattle.std.proofs.Common.{◌≡◌, ℕ, suc, ◌+◌, ◌-◌, ◌*◌, ◌/◌, ◌^◌, ◌<◌, ◌≤◌, refl, sym, ap, ◌∙◌, ⊎_elim, arith, le_refl, lt_of_le_of_lt}
+use Rattle.std.proofs.Common.{◌≡◌, ℕ, suc, ◌+◌, ◌-◌, ◌*◌, ◌/◌, ◌^◌, ◌<◌, ◌≤◌, inl, inr, ◌⊎◌}
+use Rattle.std.proofs.Common.{refl, sym, ap, ◌∙◌, ⊎_elim, arith, le_refl, lt_of_le_of_lt}
 use Rattle.std.proofs.lemmas.Bool.{cases_lt}
 use Rattle.std.proofs.lemmas.Nat.{pow-add, pow_pos, shr_below, le-div}
 use Rattle.std.proofs.Math.Nat.{mul-le-mul, mul-one, div-mul-le_self, lt-div-mul-add, one-le-mul}
@@ -76,6 +77,10 @@ between x h =
     let d = b.1 in
     (bit_length x - 64, between_at x (bit_length x - 64) (omega arith) (omega arith))
 
+-- a number is either written as it is, or lies between two that are
+whole_or_between : (x : ℕ) → (x < 2 ^ 64) ⊎ ((e : ℕ) × IsBetween x (x / 2 ^ e) e)
+whole_or_between x = ⊎_elim (λ l. inl l) (λ l. inr (between x l)) (cases_lt x (2 ^ 64))
+
 -- A result that is rounded down lacks less than one part in 2 ^ 62, and likewise up.
 short_of : (n x m p : ℕ) → m * p ≤ n → x ≤ (m + 1) * p → 2 ^ 63 ≤ m → x * 2 ^ 62 ≤ n * (2 ^ 62 + 1)
 short_of n x m p h l f =
@@ -86,19 +91,17 @@ pub close_below : (n x : ℕ) → 1 ≤ x → IsGreatestBelow n x → x * 2 ^ 62
 close_below n x p h =
     ⊎_elim
     (λ l. let e = greatest_exact n x h (representable_whole x p l) in omega arith)
-    (λ l.
-    let b = between x l in
-    short_of n x (x / 2 ^ b.0) (2 ^ b.0) (h.greatest _ b.1.low b.1.above) (let u = b.1.below in omega arith) b.1.full)
-    (cases_lt x (2 ^ 64))
+    (λ b. short_of n x (x / 2 ^ b.0) (2 ^ b.0) (h.greatest _ b.1.low b.1.above)
+    (let u = b.1.below in omega arith) b.1.full)
+    (whole_or_between x)
 
 pub close_above : (n x : ℕ) → 1 ≤ x → IsLeastAbove n x → n * 2 ^ 62 ≤ x * (2 ^ 62 + 1)
 close_above n x p h =
     ⊎_elim
     (λ l. let e = least_exact n x h (representable_whole x p l) in omega arith)
-    (λ l.
-    let b = between x l in
-    short_of x n (x / 2 ^ b.0) (2 ^ b.0) b.1.above (h.least _ b.1.high (let u = b.1.below in omega arith)) b.1.full)
-    (cases_lt x (2 ^ 64))
+    (λ b. short_of x n (x / 2 ^ b.0) (2 ^ b.0) b.1.above
+    (h.least _ b.1.high (let u = b.1.below in omega arith)) b.1.full)
+    (whole_or_between x)
 
 -- one step of the grade
 pub near_below : (n x : ℕ) → 1 ≤ x → IsGreatestBelow n x → IsNear n x 1

@@ -6,6 +6,7 @@ use Rattle.std.proofs.Common.{refl, sym, ap, ap₂, ◌∙◌, arith, inl, inr}
 use Rattle.std.proofs.lemmas.Bool.{eqb-true, eq-eqb, ne_eqb, ltb-true, ltb-false, or_left, or_right, or_from, cases_eq}
 use Rattle.std.proofs.lemmas.Map.Views.{any-filter_same}
 use Rattle.std.proofs.lemmas.Nat.Bits.{bit_at-lt, bit_at-zero, same_from_bits, bit_at_above, bit_at_set_same, bit_at_set_other}
+use Rattle.mk_net.specs.Bounds.{max_variables}
 use Rattle.mk_sets.specs.Sets.{VarSet, is_member, set_where}
 use Rattle.mk_sets.specs.declared.sets.VarSet.TheInside.{Inside}
 
@@ -62,7 +63,7 @@ and_false false = refl
 filtered : (test : ℕ → Bool) (xs : List ℕ) (x : ℕ) → is_member (filter test xs) x ≡ (test x && is_member xs x)
 filtered test xs x = any-filter_same (λ (v : ℕ). v == x) test (test x) (λ k same. ap test (eqb-true k x same)) xs
 
-pub in_where : (test : ℕ → Bool) (x : ℕ) → x < 256 → is_member (set_where test) x ≡ test x
+pub in_where : (test : ℕ → Bool) (x : ℕ) → x < max_variables → is_member (set_where test) x ≡ test x
 unfolding set_where
 in_where test x small = filtered test (range_with_len 0 256) x ∙ ap (λ (t : Bool). test x && t) (range_has 0 256 x (omega arith) (omega (arith, small))) ∙ and_true (test x)
 
@@ -77,7 +78,8 @@ same_filtered p q a (suc n) same =
     ap (λ (t : Bool). cond t (a ∷ filter p (range_with_len (a + 1) n)) (filter p (range_with_len (a + 1) n))) (same a (omega arith))
     ∙ ap (λ (xs : List ℕ). cond (q a) (a ∷ xs) xs) (same_filtered p q (a + 1) n (λ x below. same x (omega (arith, below))))
 
-pub same_where : (p q : ℕ → Bool) → ((x : ℕ) → x < 256 → p x ≡ q x) → set_where p ≡ set_where q
+pub same_where : (p q : ℕ → Bool) → ((x : ℕ) → x < max_variables → p x ≡ q x)
+    → set_where p ≡ set_where q
 unfolding set_where
 same_where p q same = same_filtered p q 0 256 (λ x below. same x (omega (arith, below)))
 
