@@ -24,7 +24,7 @@ use Rattle.mk_scope.proofs.Chosen.{among_chosen, none_among, chosen_pass}
 use Rattle.mk_scope.proofs.Onto.{places_beside}
 use Rattle.mk_table.proofs.Owned.{own_is, own_stands, plus_scaled}
 use Rattle.mk_table.proofs.Untouched.{touched_in, part_holds, false_before}
-use Rattle.mk_table.proofs.Whole.{AreParts, AreWritten, ArePluses, touched_cells, has_after}
+use Rattle.mk_table.proofs.Whole.{AreParts, AreWritten, ArePluses, touched_cells, kept_table, has_after}
 use Rattle.mk_scope.proofs.Reached.{All_unmap}
 
 -- ---- tables by their parts
@@ -185,13 +185,7 @@ module _ (plus : ℕ → ℕ → ℕ) where
       → AreMadeAnew plus td te bases offsets (2 * length offsets - 1) chosen (length chosen) od oe nd ne
       → (k : ℕ) (within after : Option (List Pair)) → k ≡ t.shift → IsWithin v.scope t.touched within → HasTouched v.scope v.touched → IsEither v.touched within after
       → (f : ℕ → ℕ) (n : ℕ) → HasNumbers t f n → IsMarginBut plus event t o f n
-      → HasNumbers (record {
-        scope = v.scope;
-        shift = k;
-        digits = filled one_digits (cells_in v.scope) (with_items a nd).items;
-        exponents = filled one_exponent (cells_in v.scope) (with_items b ne).items;
-        touched = after;
-      }) (λ d. plus_over plus 0 f (cells_onto o.scope t.scope d)) (n + (2 * cells_beside o.scope t.scope - 1))
+      → HasNumbers (kept_table v.scope k a nd b ne after) (λ d. plus_over plus 0 f (cells_onto o.scope t.scope d)) (n + (2 * cells_beside o.scope t.scope - 1))
   again_after law t v o e event allowed bases offsets chosen run are is_part named is td te od oe i j full x y a b nd ne w made k within after same_shift is_within there either f n has but =
       subst (λ (s : ScopeOf). HasNumbers table (sum s) (steps s)) (ap (λ (u : TableOf). u.scope) e)
       (has_after v v refl a b nd ne w after k (sum v.scope) (steps v.scope)

@@ -12,7 +12,8 @@ use Rattle.mk_table.specs.declared.store.Place.TheVariants.{Nowhere, Blank, Writ
 use Rattle.mk_table.specs.declared.store.Head.{Head}
 use Rattle.mk_table.specs.declared.store.Store.{Store}
 use Rattle.mk_passes.specs.Blank.{one_digits, one_exponent, filled}
-use Rattle.mk_passes.specs.Parts.{IsChanged, HaveRoom}
+use Rattle.mk_passes.specs.Parts.{AreBlankOrFull, IsFull, IsChanged, HaveRoom}
+use Rattle.mk_passes.proofs.Filled.{at_most, all_full}
 use Rattle.mk_table.specs.inner.Touched.{HasTouched}
 use Rattle.mk_table.specs.inner.Store.{IsStore, IsOpen, IsNowhere, StandsFrom, missing, tables_of, table_of, cells_from, head_in, scope_in, no_head, with_cells}
 use Rattle.mk_table.proofs.Stored.{LeavesOthers, has_missing, mid_length, mid_leaves, mid_own, end_leaves, end_own, stands_once, table_at, changed_tables, changed_store}
@@ -163,3 +164,12 @@ changed_same R W od oe d e od' oe' d' e' i j k l h =
 
 pub room_same : (more : ℕ) (od oe d e : List ℕ) → od ≡ d → oe ≡ e → ((j : ℕ) × HaveRoom j d e more) → (j : ℕ) × HaveRoom j od oe more
 room_same more od oe d e i k r = (r.0, subst (λ (ys : List ℕ). HaveRoom r.0 ys oe more) (sym i) (subst (λ (ys : List ℕ). HaveRoom r.0 d ys more) (sym k) r.1))
+
+-- the columns of a message that is written have all of its cells
+pub columns_full : (scope : ScopeOf) (md me d e : List ℕ) → AreBlankOrFull (cells_in scope) md me → cells_in scope ≤ length md → d ≡ md → e ≡ me → IsFull scope d e
+columns_full scope md me d e whole all same same_too =
+    let few = at_most _ md me whole in let all_too = all_full _ md me whole all in
+    record {
+      as_many_digits = ap (λ (ys : List ℕ). length ys) same ∙ omega (arith, all, few.0);
+      as_many_exponents = ap (λ (ys : List ℕ). length ys) same_too ∙ omega (arith, all_too, few.1);
+    }

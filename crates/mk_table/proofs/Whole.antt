@@ -223,16 +223,20 @@ pub record AreWritten (cells digits_len exponents_len : ℕ) (nd ne : List ℕ) 
   pub all_digits : digits_len ≡ cells
   pub all_exponents : exponents_len ≡ cells
 
+-- the table that keeps the arrays which a call wrote
+abbrev pub kept_table : {Y Z : Type 0} → ScopeOf → ℕ → Vec ℕ Y → List ℕ → Vec ℕ Z → List ℕ → Option (List Pair) → TableOf
+kept_table scope k a nd b ne touched = record {
+  scope = scope;
+  shift = k;
+  digits = filled one_digits (cells_in scope) (with_items a nd).items;
+  exponents = filled one_exponent (cells_in scope) (with_items b ne).items;
+  touched = touched;
+}
+
 -- and the table that keeps them
 pub has_after : {Y Z : Type 0} (v t : TableOf) → v ≡ t → (a : Vec ℕ Y) (b : Vec ℕ Z) (nd ne : List ℕ) → AreWritten (cells_in v.scope) (vec_len a) (vec_len b) nd ne → (touched : Option (List Pair)) (k : ℕ) (f : ℕ → ℕ) (n : ℕ)
     → AreNumbers (touched_cells touched t.scope) k nd ne f n
-    → HasNumbers (record {
-      scope = v.scope;
-      shift = k;
-      digits = filled one_digits (cells_in v.scope) (with_items a nd).items;
-      exponents = filled one_exponent (cells_in v.scope) (with_items b ne).items;
-      touched = touched;
-    }) f n
+    → HasNumbers (kept_table v.scope k a nd b ne touched) f n
 has_after v t e a b nd ne w touched k f n h =
     has_written v t e (filled one_digits (cells_in v.scope) (with_items a nd).items) (filled one_exponent (cells_in v.scope) (with_items b ne).items) touched k f n
     (subst (λ (ys : List ℕ). AreNumbers (touched_cells touched t.scope) k ys (filled one_exponent (cells_in v.scope) (with_items b ne).items) f n) (sym (held_items one_digits (cells_in v.scope) a nd w.digits w.all_digits))

@@ -3,12 +3,12 @@ use Rattle.std.proofs.lemmas.List.{get_or-replicate, length-replicate}
 use Rattle.mk_scope.specs.Scopes.{cells_in}
 use Rattle.mk_scope.specs.Cells.{cell_in}
 use Rattle.mk_table.specs.Lists.{table_in}
-use Rattle.mk_passes.specs.Blank.{one_digits, one_exponent}
+use Rattle.mk_passes.specs.Blank.{one_digits, one_exponent, filled}
 use Rattle.mk_table.specs.inner.Store.{scope_in, store_tables}
-use Rattle.mk_passes.proofs.Filled.{all_blank, all_full, at_most, filled_full, one_at}
+use Rattle.mk_passes.proofs.Filled.{all_blank, all_full, filled_full, one_at}
 use Rattle.mk_scope.proofs.Kept.{cell_within}
 use Rattle.mk_table.proofs.Stored.{table_is_full, tables_length}
-use Rattle.mk_table.proofs.Ranges.{after_digits, after_exponents}
+use Rattle.mk_table.proofs.Ranges.{after_digits, after_exponents, columns_full}
 use Rattle.mk_table.proofs.store.Store.spread.Goals as goal
 use Rattle.mk_table.proofs.store.Store.spread.Goals.{After-blank, After-columns-message}
 
@@ -32,34 +32,28 @@ returns-then-len-part_cells-clause-full c =
       as_many_exponents = ap (λ (ys : List ℕ). length ys) blank.1 ∙ length-replicate _ one_exponent ∙ sym count;
     }
 
+-- nothing is written of the message
+none : (c : After-blank) → (length c.args.spare.now.digits.items ≡ 0) × (length c.args.spare.now.exponents.items ≡ 0)
+none c = all_blank _ _ _ c.requires.whole (omega (arith, c.part_cells.ensures.cells, c.len.ensures, c.if-len-part_cells.true, c.args.spare.now.digits.ok.0))
+
+-- a cell that is one, like that of the message
+one_too : (one count m : ℕ) (ys xs : List ℕ) (j p : ℕ) → ys ≡ replicate count one → length xs ≡ 0 → j < count → p < m → slice_index ys j ≡ slice_index (filled one m xs) p
+one_too one count m ys xs j p blank none l within = ap (λ (zs : List ℕ). slice_index zs j) blank ∙ get_or-replicate count j one 0 l ∙ sym (one_at one m p xs none within)
+
 pub returns-then-len-part_cells-clause-digits : goal.returns-then-len-part_cells-clause-digits
 returns-then-len-part_cells-clause-digits c = λ j l.
-    let blank = (blanked (goal.at.returns-then-len-part_cells-clause-digits c).After-blank) in let count = ap cells_in c.requires.places in let part = c.args.places.now.part in let whole = c.args.places.now.whole in let m = cells_in part in
-    let md = c.args.spare.now.digits.items in let me = c.args.spare.now.exponents.items in
-    let none = all_blank m md me c.requires.whole (omega (arith, c.part_cells.ensures.cells, c.len.ensures, c.if-len-part_cells.true, c.args.spare.now.digits.ok.0)) in
-    ap (λ (ys : List ℕ). slice_index ys j) blank.0 ∙ get_or-replicate _ j one_digits 0 (omega (arith, l, count))
-    ∙ sym (one_at one_digits m (cell_in part whole j) md none.0 (cell_within part whole c.part_cells.ensures.lies_in j l))
+    let at = (goal.at.returns-then-len-part_cells-clause-digits c).After-blank in let count = ap cells_in c.requires.places in
+    one_too one_digits _ _ _ _ j _ (blanked at).0 (none at).0 (omega (arith, l, count)) (cell_within c.args.places.now.part c.args.places.now.whole c.part_cells.ensures.lies_in j l)
 
 pub returns-then-len-part_cells-clause-exponents : goal.returns-then-len-part_cells-clause-exponents
 returns-then-len-part_cells-clause-exponents c = λ j l.
-    let blank = (blanked (goal.at.returns-then-len-part_cells-clause-exponents c).After-blank) in let count = ap cells_in c.requires.places in let part = c.args.places.now.part in let whole = c.args.places.now.whole in let m = cells_in part in
-    let md = c.args.spare.now.digits.items in let me = c.args.spare.now.exponents.items in
-    let none = all_blank m md me c.requires.whole (omega (arith, c.part_cells.ensures.cells, c.len.ensures, c.if-len-part_cells.true, c.args.spare.now.digits.ok.0)) in
-    ap (λ (ys : List ℕ). slice_index ys j) blank.1 ∙ get_or-replicate _ j one_exponent 0 (omega (arith, l, count))
-    ∙ sym (one_at one_exponent m (cell_in part whole j) me none.1 (cell_within part whole c.part_cells.ensures.lies_in j l))
+    let at = (goal.at.returns-then-len-part_cells-clause-exponents c).After-blank in let count = ap cells_in c.requires.places in
+    one_too one_exponent _ _ _ _ j _ (blanked at).1 (none at).1 (omega (arith, l, count)) (cell_within c.args.places.now.part c.args.places.now.whole c.part_cells.ensures.lies_in j l)
 
 pub change-requires-clause-fits : goal.change-requires-clause-fits
 change-requires-clause-fits c =
-    let m = cells_in c.args.places.now.part in let md = c.args.spare.now.digits.items in let me = c.args.spare.now.exponents.items in
-    let all = long (goal.at.change-requires-clause-fits c).After-columns-message in let few = at_most m md me c.requires.whole in
-    let all_too = all_full m md me c.requires.whole all in (
-      c.requires.places,
-      record {
-        as_many_digits = ap (λ (ys : List ℕ). length ys) c.columns-message.ensures.digits ∙ omega (arith, all, few.0);
-        as_many_exponents = ap (λ (ys : List ℕ). length ys) c.columns-message.ensures.exponents ∙ omega (arith, all_too, few.1);
-      },
-      c.part_cells.ensures.lies_in,
-    )
+    let all = long (goal.at.change-requires-clause-fits c).After-columns-message in
+    (c.requires.places, columns_full _ _ _ _ _ c.requires.whole all c.columns-message.ensures.digits c.columns-message.ensures.exponents, c.part_cells.ensures.lies_in)
 
 pub returns-clause-full : goal.returns-clause-full
 returns-clause-full c =

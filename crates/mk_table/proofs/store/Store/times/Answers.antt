@@ -10,7 +10,7 @@ use Rattle.mk_scope.proofs.Kept.{cell_within}
 use Rattle.mk_passes.proofs.OnesSum.{times_one}
 use Rattle.mk_passes.proofs.Spread.{spread_changed}
 use Rattle.mk_table.proofs.Stored.{cells_blank, table_is_full, not_written}
-use Rattle.mk_table.proofs.Ranges.{changed_same, room_same}
+use Rattle.mk_table.proofs.Ranges.{changed_same, room_same, columns_full}
 use Rattle.mk_table.proofs.store.Store.times.Goals as goal
 use Rattle.mk_table.proofs.store.Store.times.Goals.{After-columns-message}
 
@@ -19,21 +19,20 @@ long c = omega (arith, c.part_cells.ensures.cells, c.len.ensures, c.if-len-part_
 
 pub returns-then-len-part_cells-clause-changed : goal.returns-then-len-part_cells-clause-changed
 returns-then-len-part_cells-clause-changed c =
-    let s = c.args.self.now in let scopes = c.args.scopes.now in let k = c.args.k in
-    let old = tables_of scopes s.heads.items s.digits.items s.exponents.items in let count = ap cells_in c.requires.places in
-    let part = c.args.places.now.part in let whole = c.args.places.now.whole in let n = cells_in whole in let m = cells_in part in
-    let md = c.args.spare.now.digits.items in let me = c.args.spare.now.exponents.items in let lies = c.part_cells.ensures.lies_in in
-    let none = all_blank m md me c.requires.whole (omega (arith, c.part_cells.ensures.cells, c.len.ensures, c.if-len-part_cells.true, c.args.spare.now.digits.ok.0)) in
-    let full = table_is_full scopes s.heads.items s.digits.items s.exponents.items _ _ _ c.requires.opened.store k c.requires.table in
+    let s = c.args.self.now in let old = tables_of c.args.scopes.now s.heads.items s.digits.items s.exponents.items in
+    let m = cells_in c.args.places.now.part in
+    let none = all_blank m _ _ c.requires.whole (omega (arith, c.part_cells.ensures.cells, c.len.ensures, c.if-len-part_cells.true, c.args.spare.now.digits.ok.0)) in
+    let full = table_is_full c.args.scopes.now s.heads.items s.digits.items s.exponents.items _ _ _ c.requires.opened.store c.args.k c.requires.table in
+    let count = ap cells_in c.requires.places in
     record {
       as_many_digits = refl;
       as_many_exponents = refl;
       done = λ j l.
-          let q = slice_index (table_in old k).digits j in let x = slice_index (table_in old k).exponents j in
-          let p = cell_in part whole j in let inside : p < m = cell_within part whole lies j l in
+          let q = slice_index (table_in old c.args.k).digits j in let x = slice_index (table_in old c.args.k).exponents j in
+          let p = cell_in c.args.places.now.part c.args.places.now.whole j in let inside : p < m = cell_within c.args.places.now.part c.args.places.now.whole c.part_cells.ensures.lies_in j l in
           let stand = c.requires.room.1.stand.each j (omega (arith, l, count, full.as_many_digits)) in
-          subst (λ y. IsTimesCell q x y (slice_index (filled one_exponent m me) p) q x) (sym (one_at one_digits m p md none.0 inside))
-          (subst (λ y. IsTimesCell q x one_digits y q x) (sym (one_at one_exponent m p me none.1 inside)) (times_one q x stand.form));
+          subst (λ y. IsTimesCell q x y (slice_index (filled one_exponent m c.args.spare.now.exponents.items) p) q x) (sym (one_at one_digits m p _ none.0 inside))
+          (subst (λ y. IsTimesCell q x one_digits y q x) (sym (one_at one_exponent m p _ none.1 inside)) (times_one q x stand.form));
       digits_left = λ j l. refl;
       exponents_left = λ j l. refl;
     }
@@ -59,14 +58,9 @@ returns-then-not-is_written-clause-changed c =
 
 pub change-requires-clause-fits : goal.change-requires-clause-fits
 change-requires-clause-fits c =
-    let m = cells_in c.args.places.now.part in let md = c.args.spare.now.digits.items in let me = c.args.spare.now.exponents.items in
-    let all = long (goal.at.change-requires-clause-fits c).After-columns-message in let few = at_most m md me c.requires.whole in
-    let all_too = all_full m md me c.requires.whole all in (
+    let all = long (goal.at.change-requires-clause-fits c).After-columns-message in (
       c.requires.places,
-      record {
-        as_many_digits = ap (λ (ys : List ℕ). length ys) c.columns-message.ensures.digits ∙ omega (arith, all, few.0);
-        as_many_exponents = ap (λ (ys : List ℕ). length ys) c.columns-message.ensures.exponents ∙ omega (arith, all_too, few.1);
-      },
+      columns_full _ _ _ _ _ c.requires.whole all c.columns-message.ensures.digits c.columns-message.ensures.exponents,
       room_same 1 _ _ _ _ c.columns-message.ensures.digits c.columns-message.ensures.exponents
           (c.requires.other_room.0, full_room _ _ _ c.requires.whole all c.requires.other_room.0 1 c.requires.other_room.1),
       c.requires.room,
