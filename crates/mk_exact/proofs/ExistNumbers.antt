@@ -90,10 +90,11 @@ price_is_covered near price wide p q = (
       ceiling = λ _. h.ceiling;
     }
 
--- what serves the small case serves any
-pub covers_in : (small : Type 0) (near : ℕ) (price : Fraction) (low high : ℕ)
-    → CoversPrice ⊤ near price low high → CoversPrice small near price low high
-covers_in small near price low high h = record {
+-- what serves one case serves another in which it holds
+pub covers_for : (small other : Type 0) (near : ℕ) (price : Fraction) (low high : ℕ)
+    → (other → small) → CoversPrice small near price low high
+    → CoversPrice other near price low high
+covers_for small other near price low high to h = record {
   below = h.below;
   above = h.above;
   at_most_one = h.at_most_one;
@@ -101,10 +102,14 @@ covers_in small near price low high h = record {
   high_near = h.high_near;
   never = h.never;
   sure = h.sure;
-  floor = λ _. h.floor tt;
-  ceiling = λ _.
-      h.ceiling tt;
+  floor = λ o. h.floor (to o);
+  ceiling = λ o. h.ceiling (to o);
 }
+
+-- what serves the small case serves any
+pub covers_in : (small : Type 0) (near : ℕ) (price : Fraction) (low high : ℕ)
+    → CoversPrice ⊤ near price low high → CoversPrice small near price low high
+covers_in small near price low high = covers_for ⊤ small near price low high (λ _. tt)
 
 -- one part in n + 1 is too little for a third unit
 too_wide : (low d n : ℕ) → low ≤ 10 ^ 10 → 2 ^ 38 ≤ n

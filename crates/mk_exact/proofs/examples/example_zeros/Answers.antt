@@ -1,4 +1,5 @@
-use Rattle.std.proofs.Common.{◌≢◌, ℕ, zero, suc, ◌<◌, [], ◌∷◌, codes, length, slice_index_or, refl, arith}
+use Rattle.std.proofs.Common.{◌≢◌, ℕ, zero, suc, ◌<◌, List, [], ◌∷◌, codes, length, slice_index_or}
+use Rattle.std.proofs.Common.{refl, arith}
 use Rattle.std.proofs.lemmas.List.Elements.{All-from_recursion}
 use Rattle.std.proofs.lemmas.List.Kept.{AllPairs-cons}
 use Rattle.mk_names.specs.Name.{IsName}
@@ -6,7 +7,7 @@ use Rattle.mk_net.specs.Network.{Variable, IsRow, IsVariable, IsNetwork, AreDist
 use Rattle.mk_net.specs.Named.{variable_at}
 use Rattle.mk_net.proofs.Checked.{name_of}
 use Rattle.mk_net.proofs.Distinct.{distinct_texts}
-use Rattle.mk_exact.specs.Examples.{cup}
+use Rattle.mk_exact.specs.Examples.{cup, even_row, variable}
 use Rattle.mk_exact.proofs.examples.example_zeros.Goals as goal
 
 none_apart : AreDistinct {X = ℕ} []
@@ -16,33 +17,30 @@ parents_apart : AreDistinct {X = ℕ} (0 ∷ 1 ∷ [])
 parents_apart = AllPairs-cons (λ (x y : ℕ). x ≢ y) 0 (1 ∷ []) (All-from_recursion (λ (y : ℕ). 0 ≢ y) (1 ∷ []) (λ e. omega arith, tt))
     (AllPairs-cons (λ (x y : ℕ). x ≢ y) 1 [] (All-from_recursion (λ (y : ℕ). 1 ≢ y) [] tt) none_apart)
 
-first : IsVariable (sizes cup) 0 (variable_at cup 0)
-first = record {
-  name = name_of (codes "s1") refl;
+-- a semi-final of two names that are apart
+semi : (k : ℕ) (name a b : List ℕ) → IsName name → IsName a → IsName b → AreDistinct (a ∷ b ∷ [])
+    → IsVariable (sizes cup) k (variable name (a ∷ b ∷ []) [] (even_row ∷ []))
+semi k name a b is is_a is_b apart = record {
+  name = is;
   two_values = omega arith;
   few_values = omega arith;
-  values_named = All-from_recursion IsName (codes "a" ∷ codes "b" ∷ []) (name_of (codes "a") refl, (name_of (codes "b") refl, tt));
-  values_distinct = distinct_texts (codes "a" ∷ codes "b" ∷ []) refl;
+  values_named = All-from_recursion IsName (a ∷ b ∷ []) (is_a, (is_b, tt));
+  values_distinct = apart;
   few_parents = omega arith;
-  parents_earlier = All-from_recursion (λ p. p < 0) [] tt;
+  parents_earlier = All-from_recursion (λ p. p < k) [] tt;
   parents_distinct = none_apart;
   one_row_each = refl;
-  rows_fit = All-from_recursion (IsRow 2) ((500000 ∷ 500000 ∷ []) ∷ []) (record { one_each = refl; whole = refl }, tt);
+  rows_fit = All-from_recursion (IsRow 2) (even_row ∷ [])
+      (record { one_each = refl; whole = refl }, tt);
 }
 
+first : IsVariable (sizes cup) 0 (variable_at cup 0)
+first = semi 0 _ _ _ (name_of (codes "s1") refl) (name_of (codes "a") refl)
+    (name_of (codes "b") refl) (distinct_texts (codes "a" ∷ codes "b" ∷ []) refl)
+
 second : IsVariable (sizes cup) 1 (variable_at cup 1)
-second = record {
-  name = name_of (codes "s2") refl;
-  two_values = omega arith;
-  few_values = omega arith;
-  values_named = All-from_recursion IsName (codes "c" ∷ codes "d" ∷ []) (name_of (codes "c") refl, (name_of (codes "d") refl, tt));
-  values_distinct = distinct_texts (codes "c" ∷ codes "d" ∷ []) refl;
-  few_parents = omega arith;
-  parents_earlier = All-from_recursion (λ p. p < 1) [] tt;
-  parents_distinct = none_apart;
-  one_row_each = refl;
-  rows_fit = All-from_recursion (IsRow 2) ((500000 ∷ 500000 ∷ []) ∷ []) (record { one_each = refl; whole = refl }, tt);
-}
+second = semi 1 _ _ _ (name_of (codes "s2") refl) (name_of (codes "c") refl)
+    (name_of (codes "d") refl) (distinct_texts (codes "c" ∷ codes "d" ∷ []) refl)
 
 winner : IsVariable (sizes cup) 2 (variable_at cup 2)
 winner = record {
