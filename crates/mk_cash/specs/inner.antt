@@ -1,3 +1,4 @@
 -- What only proofs and private contracts cite.
 pub mod Within
 pub mod Quotient
+pub mod Dues

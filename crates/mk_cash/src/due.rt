@@ -23,24 +23,13 @@ pub struct Due {
 
 impl Model for Due {
     ghost use Rattle.mk_cash.specs.Dues.{DueOf, IsDue};
+    ghost use Rattle.mk_cash.specs.inner.Dues.{due_of};
 
     ghost Value = { DueOf };
 
-    ghost view = { λ d. record {
-      low = d.low;
-      high = d.high;
-      trades = d.trades;
-      deposited = d.deposited;
-      withdrawn = d.withdrawn;
-    } };
+    ghost view = { due_of };
 
-    ghost invariant = { λ d. IsDue (record {
-      low = d.low;
-      high = d.high;
-      trades = d.trades;
-      deposited = d.deposited;
-      withdrawn = d.withdrawn;
-    }) };
+    ghost invariant = { λ d. IsDue (due_of d) };
 
     ghost inverse = { λ d. record {
       low = d.low;

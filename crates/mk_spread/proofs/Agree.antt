@@ -64,23 +64,18 @@ inside_is_floor small s (Some side) (low, high) X h = (
   λ f. (h.exact s X f.least f.most).1 f.floor,
 )
 
-floors_inside : (small : Type 0) → small → (sides : List (Option Side)) (given : List (ℕ × ℕ)) (Xs : List ℕ) → AllZip (IsRightFor small) sides given
-    → AllZip (λ interval X. Inside (Some interval) X) given Xs → AllZip IsFloorFor sides Xs
-floors_inside small s [] [] [] h i = tt
-floors_inside small s [] [] (X ∷ Xs) h i = absurd i
-floors_inside small s [] (n ∷ given) Xs h i = absurd h
-floors_inside small s (side ∷ sides) [] Xs h i = absurd h
-floors_inside small s (side ∷ sides) (n ∷ given) [] h i = absurd i
-floors_inside small s (side ∷ sides) (n ∷ given) (X ∷ Xs) h i = ((inside_is_floor small s side n X h.0).0 i.0, floors_inside small s sides given Xs h.1 i.1)
-
-inside_of_floors : (small : Type 0) → small → (sides : List (Option Side)) (given : List (ℕ × ℕ)) (Xs : List ℕ) → AllZip (IsRightFor small) sides given
-    → AllZip IsFloorFor sides Xs → AllZip (λ interval X. Inside (Some interval) X) given Xs
-inside_of_floors small s [] [] [] h f = tt
-inside_of_floors small s [] [] (X ∷ Xs) h f = absurd f
-inside_of_floors small s [] (n ∷ given) Xs h f = absurd h
-inside_of_floors small s (side ∷ sides) [] Xs h f = absurd h
-inside_of_floors small s (side ∷ sides) (n ∷ given) [] h f = absurd f
-inside_of_floors small s (side ∷ sides) (n ∷ given) (X ∷ Xs) h f = ((inside_is_floor small s side n X h.0).1 f.0, inside_of_floors small s sides given Xs h.1 f.1)
+floors_are_inside : (small : Type 0) → small → (sides : List (Option Side))
+    (given : List (ℕ × ℕ)) (Xs : List ℕ) → AllZip (IsRightFor small) sides given
+    → AllZip (λ interval X. Inside (Some interval) X) given Xs ↔ AllZip IsFloorFor sides Xs
+floors_are_inside small s [] [] [] h = (λ i. tt, λ f. tt)
+floors_are_inside small s [] [] (X ∷ Xs) h = (λ i. absurd i, λ f. absurd f)
+floors_are_inside small s [] (n ∷ given) Xs h = absurd h
+floors_are_inside small s (side ∷ sides) [] Xs h = absurd h
+floors_are_inside small s (side ∷ sides) (n ∷ given) [] h = (λ i. absurd i, λ f. absurd f)
+floors_are_inside small s (side ∷ sides) (n ∷ given) (X ∷ Xs) h =
+    let first = inside_is_floor small s side n X h.0 in
+    let others = floors_are_inside small s sides given Xs h.1 in
+    (λ i. (first.0 i.0, others.0 i.1), λ f. (first.1 f.0, others.1 f.1))
 
 pub no_share : (sides : List (Option Side)) (Xs : List ℕ) → Any (NoShare IsFloorSolvent) sides → AllZip IsFloorFor sides Xs → ⊥
 no_share sides Xs none floors = found (any_paired (NoShare IsFloorSolvent) IsFloorFor sides Xs floors none)
@@ -99,7 +94,7 @@ inside_is_floors small s sides intervals Xs right = at intervals right.given (ri
     at : (intervals : Intervals) → IfSome intervals (AllZip (IsRightFor small) sides) → ((intervals ≡ None) ↔ Any (NoShare IsFloorSolvent) sides)
         → InsideEach intervals Xs ↔ AllZip IsFloorFor sides Xs
     at None given none = (λ i. absurd i, λ floors. no_share sides Xs (none.0 refl) floors)
-    at (Some listed) given none = (floors_inside small s sides listed Xs given, inside_of_floors small s sides listed Xs given)
+    at (Some listed) given none = floors_are_inside small s sides listed Xs given
 
 pub bounds_agree : (network : List Variable) (H : List Entry) (u : ℕ) (spread : SpreadAsked) (first second : Intervals) (Xs : List ℕ) → IsSmall network H
     → AreRightBoundsOf network H u spread first → AreRightBoundsOf network H u spread second → InsideEach first Xs ↔ InsideEach second Xs

@@ -109,32 +109,26 @@ module _ (network : List Variable) (H : List Entry) (spread : SpreadAsked) where
         (fun_ext (λ s. by_target (is_possible H s) (holds spread.condition s) (eqb (value_at s spread.variable) k) (weight network H s) (slice_index Fs (value_at s spread.variable)) (slice_index Fs k) unit (same_units s k)))
         ∙ times_part k
 
+first_place : (a : ℕ) → a + 0 ≡ a
+first_place a = omega arith
+
+next_place : (a k : ℕ) → a + suc k ≡ a + 1 + k
+next_place a k = omega arith
+
 -- a sum over the values stays within that of the shares, where each does
 pub sum_within : (g : ℕ → ℕ) (m c : ℕ) (Xs : List ℕ) (a : ℕ) → ((k : ℕ) → k < length Xs → g (a + k) * m ≤ slice_index Xs k * c)
     → plus_over ◌+◌ 0 g (range_with_len a (length Xs)) * m ≤ sum Xs * c
 sum_within g m c [] a h = omega arith
 sum_within g m c (X ∷ Xs) a h =
-    let first : g a * m ≤ X * c = rw here at (h 0 (omega arith)) in
-    let rest : plus_over ◌+◌ 0 g (range_with_len (a + 1) (length Xs)) * m ≤ sum Xs * c = sum_within g m c Xs (a + 1) (λ k p. rw (there k) at (h (suc k) (omega arith))) in
+    let first : g a * m ≤ X * c = rw (first_place a) at (h 0 (omega arith)) in
+    let rest : plus_over ◌+◌ 0 g (range_with_len (a + 1) (length Xs)) * m ≤ sum Xs * c = sum_within g m c Xs (a + 1) (λ k p. rw (next_place a k) at (h (suc k) (omega arith))) in
     rw (sum_by-cons (λ x. x) X Xs) (omega arith)
-  where
-    here : a + 0 ≡ a
-    here = omega arith
-
-    there : (k : ℕ) → a + suc k ≡ a + 1 + k
-    there k = omega arith
 
 -- and at least that of the shares, where each is
 pub sum_beyond : (g : ℕ → ℕ) (m c : ℕ) (Xs : List ℕ) (a : ℕ) → ((k : ℕ) → k < length Xs → slice_index Xs k * c ≤ g (a + k) * m)
     → sum Xs * c ≤ plus_over ◌+◌ 0 g (range_with_len a (length Xs)) * m
 sum_beyond g m c [] a h = omega arith
 sum_beyond g m c (X ∷ Xs) a h =
-    let first : X * c ≤ g a * m = rw here at (h 0 (omega arith)) in
-    let rest : sum Xs * c ≤ plus_over ◌+◌ 0 g (range_with_len (a + 1) (length Xs)) * m = sum_beyond g m c Xs (a + 1) (λ k p. rw (there k) at (h (suc k) (omega arith))) in
+    let first : X * c ≤ g a * m = rw (first_place a) at (h 0 (omega arith)) in
+    let rest : sum Xs * c ≤ plus_over ◌+◌ 0 g (range_with_len (a + 1) (length Xs)) * m = sum_beyond g m c Xs (a + 1) (λ k p. rw (next_place a k) at (h (suc k) (omega arith))) in
     rw (sum_by-cons (λ x. x) X Xs) (omega arith)
-  where
-    here : a + 0 ≡ a
-    here = omega arith
-
-    there : (k : ℕ) → a + suc k ≡ a + 1 + k
-    there k = omega arith
