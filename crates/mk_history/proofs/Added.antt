@@ -12,11 +12,12 @@ use Rattle.mk_exact.specs.History as history
 use Rattle.mk_exact.specs.History.{Entry, users, trades, additions}
 use Rattle.mk_history.specs.declared.change.Change.{Change}
 use Rattle.mk_history.specs.declared.change.Change.TheVariants.{Join, Deposit, Withdraw, Trade}
-use Rattle.mk_history.specs.declared.change.Change.TheVariants.{Resolve, Add}
+use Rattle.mk_history.specs.declared.change.Change.TheVariants.{Resolve, Settle, Add}
 use Rattle.mk_history.specs.declared.change.KeptTrade.{KeptTrade}
 use Rattle.mk_history.specs.declared.history.Limits.{Limits}
-use Rattle.mk_history.specs.inner.Kept.{Lists, ratio_kept, entry_kept, IsKept, IsRatio, no_addition}
-use Rattle.mk_history.specs.inner.Counted.{entries_kept, AreKept, AreMeasured}
+use Rattle.mk_history.specs.inner.Kept.{Lists, ratio_kept, entry_kept, alone, IsKept, IsRatio, no_addition}
+use Rattle.mk_history.specs.Histories.{HistoryOf}
+use Rattle.mk_history.specs.inner.Counted.{entries_kept, AreKept, AreMeasured, HasPlaceAlone}
 use Rattle.mk_history.proofs.Counts.{HasPlace, within_more, one_more, IsOneMore}
 use Rattle.mk_history.proofs.Longer.{Grows, entries_more, all_more}
 
@@ -82,20 +83,36 @@ module _ (lists : Lists) (changes : List Change) (limits : Limits) (kept : AreKe
       → entry_kept lists change ≡ e → IsKept lists change → IsAdded lists lists changes limits change e
   short_added change e = added_more lists lists [] [] [] [] (same_lists lists) changes limits change e kept
 
-  pub deposit_added : (user bits : ℕ) → HasPlace (entries_kept lists changes) limits (history.Deposit user bits)
-      → IsAdded lists lists changes limits (Deposit user bits) (history.Deposit user bits)
-  deposit_added user bits room = short_added (Deposit user bits) (history.Deposit user bits) room
-      (record { its_names = refl; its_pairs = omega arith; its_factors = omega arith; its_additions = refl }) refl tt
+  abbrev here : HistoryOf
+  here = record {
+    history = entries_kept lists changes;
+    max_trades = limits.trades;
+    max_users = limits.users;
+    max_transfers = limits.transfers;
+  }
 
-  pub withdrawal_added : (user bits : ℕ) → HasPlace (entries_kept lists changes) limits (history.Withdraw user bits)
-      → IsAdded lists lists changes limits (Withdraw user bits) (history.Withdraw user bits)
-  withdrawal_added user bits room = short_added (Withdraw user bits) (history.Withdraw user bits) room
-      (record { its_names = refl; its_pairs = omega arith; its_factors = omega arith; its_additions = refl }) refl tt
+  pub place_alone : (change : Change) → HasPlaceAlone here change
+      → HasPlace (entries_kept lists changes) limits (alone change)
+  place_alone (Deposit user bits) room = room
+  place_alone (Withdraw user bits) room = room
+  place_alone (Resolve pair) room = room
+  place_alone (Join name) room = elim room [ ]
+  place_alone (Trade trade) room = elim room [ ]
+  place_alone Settle room = elim room [ ]
+  place_alone (Add question) room = elim room [ ]
 
-  pub resolution_added : (pair : Pair) → HasPlace (entries_kept lists changes) limits (history.Resolve pair)
-      → IsAdded lists lists changes limits (Resolve pair) (history.Resolve pair)
-  resolution_added pair room = short_added (Resolve pair) (history.Resolve pair) room
+  pub alone_added : (change : Change) → HasPlaceAlone here change
+      → IsAdded lists lists changes limits change (alone change)
+  alone_added (Deposit user bits) room = short_added (Deposit user bits) (history.Deposit user bits) room
       (record { its_names = refl; its_pairs = omega arith; its_factors = omega arith; its_additions = refl }) refl tt
+  alone_added (Withdraw user bits) room = short_added (Withdraw user bits) (history.Withdraw user bits) room
+      (record { its_names = refl; its_pairs = omega arith; its_factors = omega arith; its_additions = refl }) refl tt
+  alone_added (Resolve pair) room = short_added (Resolve pair) (history.Resolve pair) room
+      (record { its_names = refl; its_pairs = omega arith; its_factors = omega arith; its_additions = refl }) refl tt
+  alone_added (Join name) room = elim room [ ]
+  alone_added (Trade trade) room = elim room [ ]
+  alone_added Settle room = elim room [ ]
+  alone_added (Add question) room = elim room [ ]
 
   pub join_added : (names : List (List ℕ)) (name : ℕ) (user : List ℕ)
       → names ≡ lists.names ++ user ∷ [] → name ≡ length lists.names

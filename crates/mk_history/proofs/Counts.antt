@@ -98,72 +98,14 @@ record IsPlaced (H : List Entry) (limits : Limits) (e : Entry) : Type 0 where
   resolutions : length (resolutions H) + length (resolutions (e ∷ [])) ≤ max_variables
   settlements : count_by is_settlement H + count_by is_settlement (e ∷ []) ≤ 1
 
-none_more : (n m : ℕ) → n ≤ m → n + 0 ≤ m
-none_more n m h = omega (arith, h)
-
-fits_one : (n m : ℕ) → n < m → n + 1 ≤ m
-fits_one n m h = omega (arith, h)
-
-first : (n : ℕ) → n ≡ 0 → n + 1 ≤ 1
-first n h = omega (arith, h)
-
 placed : (H : List Entry) (limits : Limits) (e : Entry) → IsWithin H limits → HasPlace H limits e → IsPlaced H limits e
-placed H limits (Join name) old room = record {
-  users = fits_one _ _ room;
-  trades = none_more _ _ old.few_trades;
-  transfers = none_more _ _ old.few_transfers;
-  additions = none_more _ _ old.few_additions;
-  resolutions = none_more _ _ old.few_resolutions;
-  settlements = none_more _ _ old.one_settlement;
-}
-placed H limits (Deposit user bits) old room = record {
-  users = none_more _ _ old.few_users;
-  trades = none_more _ _ old.few_trades;
-  transfers = fits_one _ _ room;
-  additions = none_more _ _ old.few_additions;
-  resolutions = none_more _ _ old.few_resolutions;
-  settlements = none_more _ _ old.one_settlement;
-}
-placed H limits (Withdraw user bits) old room = record {
-  users = none_more _ _ old.few_users;
-  trades = none_more _ _ old.few_trades;
-  transfers = fits_one _ _ room;
-  additions = none_more _ _ old.few_additions;
-  resolutions = none_more _ _ old.few_resolutions;
-  settlements = none_more _ _ old.one_settlement;
-}
-placed H limits (Trade user ratio) old room = record {
-  users = none_more _ _ old.few_users;
-  trades = fits_one _ _ room;
-  transfers = none_more _ _ old.few_transfers;
-  additions = none_more _ _ old.few_additions;
-  resolutions = none_more _ _ old.few_resolutions;
-  settlements = none_more _ _ old.one_settlement;
-}
-placed H limits (Resolve pair) old room = record {
-  users = none_more _ _ old.few_users;
-  trades = none_more _ _ old.few_trades;
-  transfers = none_more _ _ old.few_transfers;
-  additions = none_more _ _ old.few_additions;
-  resolutions = fits_one _ _ room;
-  settlements = none_more _ _ old.one_settlement;
-}
-placed H limits (Settle payments) old room = record {
-  users = none_more _ _ old.few_users;
-  trades = none_more _ _ old.few_trades;
-  transfers = none_more _ _ old.few_transfers;
-  additions = none_more _ _ old.few_additions;
-  resolutions = none_more _ _ old.few_resolutions;
-  settlements = first _ (no_settlement H room);
-}
-placed H limits (Add addition) old room = record {
-  users = none_more _ _ old.few_users;
-  trades = none_more _ _ old.few_trades;
-  transfers = none_more _ _ old.few_transfers;
-  additions = fits_one _ _ room;
-  resolutions = none_more _ _ old.few_resolutions;
-  settlements = none_more _ _ old.one_settlement;
-}
+placed H limits (Join name) old room = omega (arith, old, room)
+placed H limits (Deposit user bits) old room = omega (arith, old, room)
+placed H limits (Withdraw user bits) old room = omega (arith, old, room)
+placed H limits (Trade user ratio) old room = omega (arith, old, room)
+placed H limits (Resolve pair) old room = omega (arith, old, room)
+placed H limits (Settle payments) old unsettled = omega (arith, old, no_settlement H unsettled)
+placed H limits (Add addition) old room = omega (arith, old, room)
 
 pub within_more : (H : List Entry) (limits : Limits) (e : Entry) → IsWithin H limits → HasPlace H limits e → IsWithin (H ++ e ∷ []) limits
 within_more H limits e old room =

@@ -9,6 +9,8 @@ ghost use Rattle.mk_history.specs.Below.{additions, is_transfer, is_settled};
 ghost use Rattle.mk_exact.specs.History.{trades as trades_in};
 ghost use Rattle.mk_history.specs.Entries.{ends, addition_of};
 ghost use Rattle.mk_history.specs.Histories.{max_additions};
+ghost use Rattle.mk_history.specs.inner.Kept.{alone};
+ghost use Rattle.mk_history.specs.inner.Counted.{HasPlaceAlone};
 
 use crate::change::{Change, KeptTrade};
 use crate::entry::{AddedQuestion, Payout};
@@ -113,7 +115,7 @@ impl History {
         ensures users { self.new.max_users ≡ self.old.max_users }
         ensures transfers { self.new.max_transfers ≡ self.old.max_transfers }
     {
-        self.changes.push_reserved(Change::Deposit { user, bits });
+        self.push(Change::Deposit { user, bits });
     }
 
     /// Adds a withdrawal.
@@ -124,7 +126,18 @@ impl History {
         ensures users { self.new.max_users ≡ self.old.max_users }
         ensures transfers { self.new.max_transfers ≡ self.old.max_transfers }
     {
-        self.changes.push_reserved(Change::Withdraw { user, bits });
+        self.push(Change::Withdraw { user, bits });
+    }
+
+    /// Adds a change that names nothing beside it.
+    fn push(&mut self, change: Change)
+        requires { HasPlaceAlone self.old change }
+        ensures history { self.new.history ≡ self.old.history ++ alone change ∷ [] }
+        ensures limit { self.new.max_trades ≡ self.old.max_trades }
+        ensures users { self.new.max_users ≡ self.old.max_users }
+        ensures transfers { self.new.max_transfers ≡ self.old.max_transfers }
+    {
+        self.changes.push_reserved(change);
     }
 
     /// Adds a trade.
@@ -157,7 +170,7 @@ impl History {
         ensures users { self.new.max_users ≡ self.old.max_users }
         ensures transfers { self.new.max_transfers ≡ self.old.max_transfers }
     {
-        self.changes.push_reserved(Change::Resolve { pair });
+        self.push(Change::Resolve { pair });
     }
 
     /// Adds the settlement, and what it pays.

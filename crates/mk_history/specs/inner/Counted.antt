@@ -1,12 +1,14 @@
 -- How many changes of each kind a history may have, and its room.
-use Rattle.std.specs.Prelude.{◌≡◌, ℕ, ◌+◌, ◌*◌, ◌≤◌, List, length, map, All}
+use Rattle.std.specs.Prelude.{◌≡◌, ℕ, ◌+◌, ◌*◌, ◌<◌, ◌≤◌, List, length, map, All}
 use Rattle.std.specs.List.{count_by}
 use Rattle.mk_net.specs.Bounds.{max_variables, max_users, max_transfers, max_market_trades}
 use Rattle.mk_net.specs.Bounds.{max_condition, max_values}
 use Rattle.mk_exact.specs.History.{Entry, users, trades, resolutions, additions}
 use Rattle.mk_exact.specs.History.{is_transfer, is_settlement}
-use Rattle.mk_history.specs.Histories.{max_additions}
+use Rattle.mk_history.specs.Histories.{HistoryOf, max_additions}
 use Rattle.mk_history.specs.declared.change.Change.{Change}
+use Rattle.mk_history.specs.declared.change.Change.TheVariants.{Join, Deposit, Withdraw, Trade}
+use Rattle.mk_history.specs.declared.change.Change.TheVariants.{Resolve, Settle, Add}
 use Rattle.mk_history.specs.declared.history.Limits.{Limits}
 use Rattle.mk_history.specs.inner.Kept.{Lists, entry_kept, IsKept}
 
@@ -47,3 +49,13 @@ pub record HasRoom (limits : Limits) (changes names pairs factors questions : �
   pub for_pairs : max_condition * limits.trades ≤ pairs
   pub for_factors : max_values * limits.trades ≤ factors
   pub for_questions : max_additions ≤ questions
+
+-- there may be one change more of this kind, which names nothing in the lists
+abbrev pub HasPlaceAlone : HistoryOf → Change → Type 0
+HasPlaceAlone h (Deposit user bits) = count_by is_transfer h.history < h.max_transfers
+HasPlaceAlone h (Withdraw user bits) = count_by is_transfer h.history < h.max_transfers
+HasPlaceAlone h (Resolve pair) = length (resolutions h.history) < max_variables
+HasPlaceAlone h (Join name) = ⊥
+HasPlaceAlone h (Trade trade) = ⊥
+HasPlaceAlone h Settle = ⊥
+HasPlaceAlone h (Add question) = ⊥

@@ -47,6 +47,16 @@ entry_kept lists (Resolve pair) = history.Resolve pair
 entry_kept lists Settle = history.Settle lists.payments
 entry_kept lists (Add question) = history.Add (get_or lists.additions question no_addition)
 
+-- the same without the lists, for a change that names nothing there
+abbrev pub alone : Change → history.Entry
+alone (Deposit user bits) = history.Deposit user bits
+alone (Withdraw user bits) = history.Withdraw user bits
+alone (Resolve pair) = history.Resolve pair
+alone (Join name) = history.Join []
+alone (Trade trade) = history.Settle []
+alone Settle = history.Settle []
+alone (Add question) = history.Add no_addition
+
 -- a condition, a variable and factors as those of a trade
 pub record IsRatio (ratio : TradeRatio) : Type 0 where
   pub few_pairs : length ratio.condition ≤ max_condition
