@@ -1,6 +1,7 @@
 //! Writing a command.
 
 ghost use Rattle.std.specs.Prelude.{◌≡◌, ◌≤◌, ◌<◌, ◌+◌, ◌^◌, ◌++◌, length, codes, decimal, IfSome};
+ghost use Rattle.mk_net.specs.Bounds.{max_condition};
 ghost use Rattle.mk_command.specs.Below.{MAX_LINE_BYTES};
 ghost use Rattle.mk_command.specs.Below.{array_string_len, IsShort, ◌&◌, spaced, AreSeveral};
 ghost use Rattle.mk_command.specs.Below.{condition_text, question_text};
@@ -71,21 +72,13 @@ fn put_of_values(out: &mut ArrayString<MAX_LINE_BYTES>, command: &Command)
             user,
             variable,
             condition,
-        } => {
-            put_user(out, "bounds ", user);
-            put_values_asked(out, variable, condition.as_slice());
-        }
+        } => put_values_asked(out, "bounds ", user, variable, condition.as_slice()),
         Command::Spread {
             user,
             variable,
             condition,
-            to,
-            at,
-        } => {
-            put_user(out, "spread ", user);
-            put_values_asked(out, variable, condition.as_slice());
-            put_moves(out, to.as_slice(), *at);
-        }
+            ..
+        } => put_values_asked(out, "spread ", user, variable, condition.as_slice()),
         Command::Prices {
             variable,
             condition,
@@ -98,11 +91,11 @@ fn put_of_values(out: &mut ArrayString<MAX_LINE_BYTES>, command: &Command)
             user,
             variable,
             condition,
-        } => {
-            put_user(out, "position ", user);
-            put_values_asked(out, variable, condition.as_slice());
-        }
+        } => put_values_asked(out, "position ", user, variable, condition.as_slice()),
         _ => unreachable!(),
+    }
+    if let Command::Spread { to, at, .. } = command {
+        put_moves(out, to.as_slice(), *at);
     }
 }
 
@@ -134,12 +127,20 @@ fn put_asked(out: &mut ArrayString<MAX_LINE_BYTES>, question: &QuestionText)
     put_question(out, question);
 }
 
-fn put_values_asked(out: &mut ArrayString<MAX_LINE_BYTES>, variable: &Name, condition: &[PairText])
-    requires few { length condition.now ≤ 8 }
-    requires room { array_string_len out.old + 570 ≤ MAX_LINE_BYTES }
-    ensures text { out.new.bytes ≡ out.old.bytes ++ (codes " " ++ (variable.now ++ condition_text condition.now)) }
-    ensures growth { array_string_len out.new ≤ array_string_len out.old + 570 }
+fn put_values_asked(
+    out: &mut ArrayString<MAX_LINE_BYTES>,
+    word: &str,
+    user: &Name,
+    variable: &Name,
+    condition: &[PairText],
+)
+    requires few { length condition.now ≤ max_condition }
+    requires room { array_string_len out.old + length word.now + 602 ≤ MAX_LINE_BYTES }
+    ensures text { out.new.bytes ≡ out.old.bytes
+        ++ (word.now & user.now & codes " " & variable.now & condition_text condition.now) }
+    ensures growth { array_string_len out.new ≤ array_string_len out.old + length word.now + 602 }
 {
+    put_user(out, word, user);
     out.push_str(" ");
     put_name(out, variable);
     put_condition(out, condition);
