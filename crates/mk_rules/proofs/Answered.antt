@@ -142,16 +142,16 @@ module _ (market : Market) (now : Standing) (is_market : IsMarket market) (ready
       at (inr outside) = (Refused (Beyond limits), inr (record { outside = outside; printed = refl }))
 
   -- by limits made for this reply
-  judged_afresh : (u : ℕ) (asked : Asked) (X : ℕ) → CanMove network H asked → (reply : Reply) × IsJudgedAfresh network H u asked X reply
-  judged_afresh u asked X can = at limits.0 limits.1 (limits_judge network H u asked limits.0 X limits.1)
-    where
-      limits : (limits : Interval) × AreRightLimits network H u asked limits
-      limits = right_limits_exist network H u asked is_market.network ready.stands.proper can
+  afresh : (u : ℕ) (asked : Asked) (X : ℕ) (limits : Interval) (reply : Reply) → AreRightLimits network H u asked limits
+      → IsJudged network H u asked X limits reply → IsJudgedAfresh network H u asked X reply
+  afresh u asked X limits reply right (inl (inside, trade)) = inl trade
+  afresh u asked X limits reply right (inr beyond) = inr (record { limits = limits; right = right; beyond = beyond })
 
-      at : (limits : Interval) → AreRightLimits network H u asked limits → ((Inside limits X × HasFairPair network H u asked X) ⊎ (¬ Inside limits X))
-          → (reply : Reply) × IsJudgedAfresh network H u asked X reply
-      at limits right (inl (inside, pair)) = let trade = trade_at u asked X pair in (trade.0, inl trade.1)
-      at limits right (inr outside) = (Refused (Beyond limits), inr (record { limits = limits; right = right; beyond = record { outside = outside; printed = refl } }))
+  judged_afresh : (u : ℕ) (asked : Asked) (X : ℕ) → CanMove network H asked → (reply : Reply) × IsJudgedAfresh network H u asked X reply
+  judged_afresh u asked X can =
+      let limits = right_limits_exist network H u asked is_market.network ready.stands.proper can in
+      let reply = judged u asked X limits.0 limits.1 in
+      (reply.0, afresh u asked X limits.0 reply.0 limits.1 reply.1)
 
   edit_answer : (u : ℕ) (asked : Asked) (X : ℕ) → CanMove network H asked → (o : Option Interval) → current_limits (last_quote now.quotes u) asked (revision H) ≡ o
       → (reply : Reply) × MatchOption o (IsJudgedAfresh network H u asked X reply) (λ limits. IsJudged network H u asked X limits reply)
@@ -188,18 +188,16 @@ module _ (market : Market) (now : Standing) (is_market : IsMarket market) (ready
       at (inr outside) = let refused = outside_at intervals Xs outside in (refused.0, inr refused.1)
 
   -- by bounds made for this reply
-  spread_afresh : (u : ℕ) (spread : SpreadAsked) (Xs : List ℕ) → CanBeSpread network H spread → (reply : Reply) × IsSpreadJudgedAfresh network H u spread Xs reply
-  spread_afresh u spread Xs can = at bounds.0 bounds.1 (bounds_judge network H u spread bounds.0 Xs bounds.1)
-    where
-      bounds : (intervals : Intervals) × AreRightBoundsOf network H u spread intervals
-      bounds = right_bounds_exist network H u spread is_market.network ready.stands.proper can
+  made_afresh : (u : ℕ) (spread : SpreadAsked) (Xs : List ℕ) (intervals : Intervals) (reply : Reply) → AreRightBoundsOf network H u spread intervals
+      → IsSpreadJudged network H u spread Xs intervals reply → IsSpreadJudgedAfresh network H u spread Xs reply
+  made_afresh u spread Xs intervals reply right (inl (inside, trade)) = inl trade
+  made_afresh u spread Xs intervals reply right (inr outside) = inr (record { intervals = intervals; right = right; outside = outside })
 
-      at : (intervals : Intervals) → AreRightBoundsOf network H u spread intervals → ((InsideEach intervals Xs × HasFairList network H u spread Xs) ⊎ (¬ InsideEach intervals Xs))
-          → (reply : Reply) × IsSpreadJudgedAfresh network H u spread Xs reply
-      at intervals right (inl (inside, list)) = let trade = spread_at u spread Xs list in (trade.0, inl trade.1)
-      at intervals right (inr outside) =
-          let refused = outside_at intervals Xs outside in
-          (refused.0, inr (record { intervals = intervals; right = right; outside = refused.1 }))
+  spread_afresh : (u : ℕ) (spread : SpreadAsked) (Xs : List ℕ) → CanBeSpread network H spread → (reply : Reply) × IsSpreadJudgedAfresh network H u spread Xs reply
+  spread_afresh u spread Xs can =
+      let bounds = right_bounds_exist network H u spread is_market.network ready.stands.proper can in
+      let reply = spread_judged u spread Xs bounds.0 bounds.1 in
+      (reply.0, made_afresh u spread Xs bounds.0 reply.0 bounds.1 reply.1)
 
   spread_answer : (u : ℕ) (spread : SpreadAsked) (Xs : List ℕ) → CanBeSpread network H spread → (o : Option Intervals) → current_bounds (last_quote now.quotes u) spread (revision H) ≡ o
       → (reply : Reply) × MatchOption o (IsSpreadJudgedAfresh network H u spread Xs reply) (λ intervals. IsSpreadJudged network H u spread Xs intervals reply)

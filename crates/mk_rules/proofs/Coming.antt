@@ -16,6 +16,7 @@ use Rattle.mk_net.specs.declared.words.QuestionText.{QuestionText}
 use Rattle.mk_net.specs.Asked.{Asked}
 use Rattle.mk_net.specs.Firsts.{fault_if, or_else, first_of}
 use Rattle.mk_net.proofs.Events.{neither}
+use Rattle.mk_states.proofs.Sums.{each_below}
 use Rattle.mk_states.specs.Events.{has, holds, with_target, without_target, always}
 use Rattle.mk_exact.specs.History.{Entry}
 use Rattle.mk_exact.specs.Weight.{possible_states, cannot_come}
@@ -154,24 +155,12 @@ mapped_has P f None n each below = tt
 mapped_has P f (Some k) n each below = each k below
 
 only_below : (p : ℕ → Bool) (a n : ℕ) → IfSome (only (filter p (range_with_len a n))) (λ k. k < a + n)
-only_below p a n = at (filter p (range_with_len a n)) (below p a n)
+only_below p a n = at (filter p (range_with_len a n)) (each_below p a n)
   where
     at : (ns : List ℕ) → AllByRecursion (λ k. k < a + n) ns → IfSome (only ns) (λ k. k < a + n)
     at [] h = tt
     at (k ∷ []) h = h.0
     at (k ∷ m ∷ ns) h = tt
-
-    below : (p : ℕ → Bool) (a n : ℕ) → AllByRecursion (λ k. k < a + n) (filter p (range_with_len a n))
-    below p a zero = tt
-    below p a (suc n) = here (p a) (further (filter p (range_with_len (a + 1) n)) (below p (a + 1) n))
-      where
-        further : (ns : List ℕ) → AllByRecursion (λ k. k < a + 1 + n) ns → AllByRecursion (λ k. k < a + suc n) ns
-        further [] h = tt
-        further (k ∷ ns) h = (omega (arith, h.0), further ns h.1)
-
-        here : (b : Bool) → AllByRecursion (λ k. k < a + suc n) (filter p (range_with_len (a + 1) n)) → AllByRecursion (λ k. k < a + suc n) (cond b (a ∷ filter p (range_with_len (a + 1) n)) (filter p (range_with_len (a + 1) n)))
-        here true h = (omega arith, h)
-        here false h = h
 
 pub sure_has : (P : Refusal → Type 0) (network : List Variable) (H : List Entry) (v : List ℕ) (pairs : List PairText) → HasEachValue P network v Sure → IfSome (sure_value network H v pairs) P
 sure_has P network H v pairs each = at (spread_named network v pairs)

@@ -1,5 +1,5 @@
 -- An edit under limits that were quoted is a trade exactly inside of them, and so is a spread under bounds that were.
-use Rattle.std.proofs.Common.{◌≡◌, ℕ, inl, inr, List, Option, Some, None, sym, subst}
+use Rattle.std.proofs.Common.{◌≡◌, ℕ, inl, inr, List, Option, Some, None, MatchOption, sym, subst}
 use Rattle.std.specs.Prelude.{◌↔◌}
 use Rattle.arrayvec.specs.ArrayVec.{ArrayVec}
 use Rattle.mk_net.specs.declared.words.PairText.{PairText}
@@ -53,3 +53,16 @@ spread_judged_exactly market now u v condition to seen spread intervals reply no
     (at_some _ _ (current_bounds (last_quote now.quotes (user_number now.history u)) spread (revision now.history)) intervals current
     (at_value _ (spread_named market.network v condition.items) spread named
     (at_none (λ (why : Refusal). reply ≡ Refused why) (first_refusal market now.history (Spread u v condition to seen)) none h)))
+
+-- by what was quoted, or afresh where nothing was, two replies are both trades or neither is
+pub alike : {X : Type 0} (Afresh : Reply → Type 0) (By : X → Reply → Type 0) (Admits : X → Type 0)
+    → ((first second : Reply) → Afresh first → Afresh second → IsTraded first → IsTraded second)
+    → ((x : X) (reply : Reply) → By x reply → IsTraded reply ↔ Admits x)
+    → (o : Option X) (first second : Reply) → MatchOption o (Afresh first) (λ x. By x first)
+    → MatchOption o (Afresh second) (λ x. By x second) → IsTraded first ↔ IsTraded second
+alike Afresh By Admits afresh inside None first second a b =
+    (afresh first second a b, afresh second first b a)
+alike Afresh By Admits afresh inside (Some x) first second a b =
+    let one = inside x first a in
+    let other = inside x second b in
+    (λ traded. other.1 (one.0 traded), λ traded. one.1 (other.0 traded))

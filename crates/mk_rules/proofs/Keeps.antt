@@ -6,6 +6,7 @@ use Rattle.std.proofs.Common.{refl, sym, ap, ◌∙◌, subst, arith, append-nil
 use Rattle.std.specs.Prelude.{option_to_list, ◌==◌}
 use Rattle.std.specs.List.{AllByRecursion, list_any, list_all}
 use Rattle.std.proofs.lemmas.List.Elements.{filter_map-append}
+use Rattle.std.proofs.lemmas.List.Folds.{list_any-append}
 use Rattle.arrayvec.specs.ArrayVec.{ArrayVec}
 use Rattle.mk_net.specs.declared.words.PairText.{PairText}
 use Rattle.mk_net.specs.declared.words.QuestionText.{QuestionText}
@@ -86,13 +87,7 @@ each_trade P H (Adds a) h k = subst (AllByRecursion P) (sym (trades_kept H (Adds
 -- what some clique holds it holds beside further cliques
 any_longer : {X : Type 0} (test : X → Bool) (xs more : List X) → list_any test xs ≡ true
     → list_any test (xs ++ more) ≡ true
-any_longer test [] more h = absurd (cc)
-any_longer test (x ∷ xs) more h = at (test x) h (any_longer test xs more)
-  where
-    at : (b : Bool) → (b || list_any test xs) ≡ true
-        → (list_any test xs ≡ true → list_any test (xs ++ more) ≡ true) → (b || list_any test (xs ++ more)) ≡ true
-    at true h later = refl
-    at false h later = later h
+any_longer test xs more h = list_any-append test xs more ∙ ap (λ b. b || list_any test more) h
 
 from_false : (b : Bool) → not b ≡ false → b ≡ true
 from_false true h = refl

@@ -16,10 +16,10 @@ use Rattle.mk_exact.specs.Market.{Market}
 use Rattle.mk_exact.specs.Weight.{IsSmall}
 use Rattle.mk_exact.specs.Factors.{factor_with, least_gain}
 use Rattle.mk_exact.specs.Prices.{price_where, IsSolvent}
-use Rattle.mk_exact.specs.Limits.{Side, IsFairAndSolvent, IsFloorSolvent}
+use Rattle.mk_exact.specs.Limits.{Side, Inside, IsFairAndSolvent, IsFloorSolvent}
 use Rattle.mk_exact.specs.Sides.{IsSide}
 use Rattle.mk_spread.specs.Spreads.{SpreadAsked}
-use Rattle.mk_spread.specs.Bounds.{Intervals}
+use Rattle.mk_spread.specs.Bounds.{Intervals, InsideEach}
 use Rattle.mk_spread.specs.Markets.{SuitValues}
 use Rattle.mk_spread.proofs.Agree.{fair_list_is_inside}
 use Rattle.mk_command.specs.declared.command.Command.{Command}
@@ -35,10 +35,10 @@ use Rattle.mk_rules.specs.Laws.{IsTraded}
 use Rattle.mk_rules.proofs.Options.{value_of, at_none, at_some, at_value}
 use Rattle.mk_rules.proofs.Unrefused.{none_applies, number_in_range}
 use Rattle.mk_rules.proofs.Spreadable.{shares_suit}
-use Rattle.mk_rules.proofs.Judged.{traded_inside, spread_traded_inside}
+use Rattle.mk_rules.proofs.Judged.{traded_inside, spread_traded_inside, alike}
 
 -- a question has one side of each kind
-one_side : (network : List Variable) (H : List Entry) (u : ℕ) (asked : Asked) (test : List ℕ → Bool) (a b : Side)
+pub one_side : (network : List Variable) (H : List Entry) (u : ℕ) (asked : Asked) (test : List ℕ → Bool) (a b : Side)
     → IsSide network H u asked test a → IsSide network H u asked test b → a ≡ b
 one_side network H u asked test a b h k = at (least_gain network H u test) h k
   where
@@ -78,14 +78,10 @@ module _ (network : List Variable) (H : List Entry) (u : ℕ) (asked : Asked) (X
   afresh first second (inl trade) (inr beyond) traded = absurd (not_both network H u asked X first second small least most trade beyond)
   afresh first second (inr other) (inr beyond) traded = absurd (not_traded other.limits X first other.beyond traded)
 
-  of_kind : (first second : Reply) (o : Option Interval)
+  of_kind : (o : Option Interval) (first second : Reply)
       → MatchOption o (IsJudgedAfresh network H u asked X first) (λ limits. IsJudged network H u asked X limits first)
       → MatchOption o (IsJudgedAfresh network H u asked X second) (λ limits. IsJudged network H u asked X limits second) → IsTraded first ↔ IsTraded second
-  of_kind first second None a b = (afresh first second a b, afresh second first b a)
-  of_kind first second (Some limits) a b =
-      let one = traded_inside network H u asked X limits first a in
-      let other = traded_inside network H u asked X limits second b in
-      (λ traded. other.1 (one.0 traded), λ traded. one.1 (other.0 traded))
+  of_kind = alike (IsJudgedAfresh network H u asked X) (IsJudged network H u asked X) (λ limits. Inside limits X) afresh (traded_inside network H u asked X)
 
 pub one_kind : (market : Market) (now : Standing) (u : List ℕ) (q : QuestionText) (X : ℕ) (seen : Option ℕ) (first second : Reply)
     → IsSmall market.network now.history → first_refusal market now.history (Edit u q X seen) ≡ None
@@ -95,8 +91,8 @@ one_kind market now u q X seen first second small none a b =
     let refused = none_applies (refusals market now.history (Edit u q X seen)) none in
     let share = number_in_range (million - 1) X refused.1.1.1.1.1.1.1.1.0 in
     let judged = value_of _ (question_named market.network q) (at_none (λ (why : Refusal). first ≡ Refused why) (first_refusal market now.history (Edit u q X seen)) none a) in
-    of_kind market.network now.history (user_number now.history u) judged.0 X small share.0 share.1 first second
-    (current_limits (last_quote now.quotes (user_number now.history u)) judged.0 (revision now.history)) judged.2
+    of_kind market.network now.history (user_number now.history u) judged.0 X small share.0 share.1
+    (current_limits (last_quote now.quotes (user_number now.history u)) judged.0 (revision now.history)) first second judged.2
     (at_value _ (question_named market.network q) judged.0 judged.1
     (at_none (λ (why : Refusal). second ≡ Refused why) (first_refusal market now.history (Edit u q X seen)) none b))
 
@@ -116,14 +112,11 @@ module _ (network : List Variable) (H : List Entry) (u : ℕ) (spread : SpreadAs
   spread_afresh first second (inl trade) (inr refused) traded = absurd (not_outside network H u spread Xs first second small suited trade refused)
   spread_afresh first second (inr other) (inr refused) traded = absurd (not_spread other.intervals Xs first other.outside traded)
 
-  spread_of_kind : (first second : Reply) (o : Option Intervals)
+  spread_of_kind : (o : Option Intervals) (first second : Reply)
       → MatchOption o (IsSpreadJudgedAfresh network H u spread Xs first) (λ intervals. IsSpreadJudged network H u spread Xs intervals first)
       → MatchOption o (IsSpreadJudgedAfresh network H u spread Xs second) (λ intervals. IsSpreadJudged network H u spread Xs intervals second) → IsTraded first ↔ IsTraded second
-  spread_of_kind first second None a b = (spread_afresh first second a b, spread_afresh second first b a)
-  spread_of_kind first second (Some intervals) a b =
-      let one = spread_traded_inside network H u spread Xs intervals first a in
-      let other = spread_traded_inside network H u spread Xs intervals second b in
-      (λ traded. other.1 (one.0 traded), λ traded. one.1 (other.0 traded))
+  spread_of_kind = alike (IsSpreadJudgedAfresh network H u spread Xs) (IsSpreadJudged network H u spread Xs) (λ intervals. InsideEach intervals Xs) spread_afresh
+      (spread_traded_inside network H u spread Xs)
 
 pub spread_one_kind : (market : Market) (now : Standing) (u v : List ℕ) (condition : ArrayVec PairText) (to : ArrayVec ℕ) (seen : Option ℕ) (first second : Reply)
     → IsSmall market.network now.history → first_refusal market now.history (Spread u v condition to seen) ≡ None
@@ -135,8 +128,8 @@ spread_one_kind market now u v condition to seen first second small none a b =
     (at_none (λ (why : Refusal). first ≡ Refused why) (first_refusal market now.history (Spread u v condition to seen)) none a) in
     let behind = refused.1.1.1.1.1.1.1.1.1 in
     let suited = shares_suit market.network now.history v condition.items judged.0 (least_share market) to.items judged.1 behind.0 behind.1.0 behind.1.1.1.1.1.1.0 behind.1.1.1.1.1.1.1.0 in
-    spread_of_kind market.network now.history (user_number now.history u) judged.0 to.items small suited first second
-    (current_bounds (last_quote now.quotes (user_number now.history u)) judged.0 (revision now.history)) judged.2
+    spread_of_kind market.network now.history (user_number now.history u) judged.0 to.items small suited
+    (current_bounds (last_quote now.quotes (user_number now.history u)) judged.0 (revision now.history)) first second judged.2
     (at_value _ (spread_named market.network v condition.items) judged.0 judged.1
     (at_none (λ (why : Refusal). second ≡ Refused why) (first_refusal market now.history (Spread u v condition to seen)) none b))
 

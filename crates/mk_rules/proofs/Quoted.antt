@@ -63,21 +63,22 @@ same_spread_is a b h =
     let parts = and_parts (a.variable == b.variable) (pointwise same_pair a.condition b.condition) h in
     ap₂ (λ (variable : ℕ) (ps : List Pair). record { variable = variable; condition = ps }) (eqb-true a.variable b.variable parts.0) (same_pairs_are a.condition b.condition parts.1)
 
+-- what a quote that is the same holds
+of_same : {A L : Type 0} (P : A → L → Type 0) (same : A → A → Bool) → ((a b : A) → same a b ≡ true → a ≡ b)
+    → (own asked : A) (held wanted : L) (b : Bool) → same own asked ≡ b → P own held
+    → cond b (Some held) None ≡ Some wanted → P asked wanted
+of_same P same is own asked held wanted false e right h = cc
+of_same P same is own asked held wanted true e right h =
+    let equal : held ≡ wanted = cc in
+    subst (λ l. P asked l) equal (subst (λ a. P a held) (is own asked e) right)
+
 -- limits that a right quote holds for a question at the present revision are right
 module _ (market : Market) (H : List Entry) (u : ℕ) (asked : Asked) (limits : Interval) where
-  abbrev AreRightHere : Asked → Interval → Type 0
-  AreRightHere question held = AreRightLimits market.network H u question held
-
-  of_question : (question : Asked) (held : Interval) (b : Bool) → same_question question asked ≡ b → AreRightHere question held → cond b (Some held) None ≡ Some limits → AreRightHere asked limits
-  of_question question held false e right h = cc
-  of_question question held true e right h =
-      let same : held ≡ limits = cc in
-      subst (λ (l : Interval). AreRightHere asked l) same (subst (λ (a : Asked). AreRightHere a held) (same_question_is question asked e) right)
-
   of_quote : (says : Quoted) (at : ℕ) (b : Bool) → (at == revision H) ≡ b → IsRightQuote market H u (record { says = says; at = at })
-      → cond b (limits_in says asked) None ≡ Some limits → AreRightHere asked limits
+      → cond b (limits_in says asked) None ≡ Some limits → AreRightLimits market.network H u asked limits
   of_quote (EditLimits question held) at false e right h = cc
-  of_quote (EditLimits question held) at true e right h = of_question question held (same_question question asked) refl (right.right (eqb-true at (revision H) e)) h
+  of_quote (EditLimits question held) at true e right h =
+      of_same (AreRightLimits market.network H u) same_question same_question_is question asked held limits (same_question question asked) refl (right.right (eqb-true at (revision H) e)) h
   of_quote (SpreadBounds spread held) at false e right h = cc
   of_quote (SpreadBounds spread held) at true e right h = cc
 
@@ -87,22 +88,13 @@ module _ (market : Market) (H : List Entry) (u : ℕ) (asked : Asked) (limits : 
 
 -- and so are the bounds that it holds for a spread
 module _ (market : Market) (H : List Entry) (u : ℕ) (spread : SpreadAsked) (intervals : Intervals) where
-  abbrev AreBoundsHere : SpreadAsked → Intervals → Type 0
-  AreBoundsHere asked held = AreRightBoundsOf market.network H u asked held
-
-  of_spread : (asked : SpreadAsked) (held : Intervals) (b : Bool) → same_spread asked spread ≡ b → AreBoundsHere asked held → cond b (Some held) None ≡ Some intervals
-      → AreBoundsHere spread intervals
-  of_spread asked held false e right h = cc
-  of_spread asked held true e right h =
-      let same : held ≡ intervals = cc in
-      subst (λ (given : Intervals). AreBoundsHere spread given) same (subst (λ (a : SpreadAsked). AreBoundsHere a held) (same_spread_is asked spread e) right)
-
   bounds_of_quote : (says : Quoted) (at : ℕ) (b : Bool) → (at == revision H) ≡ b → IsRightQuote market H u (record { says = says; at = at })
-      → cond b (bounds_in says spread) None ≡ Some intervals → AreBoundsHere spread intervals
+      → cond b (bounds_in says spread) None ≡ Some intervals → AreRightBoundsOf market.network H u spread intervals
   bounds_of_quote (EditLimits question held) at false e right h = cc
   bounds_of_quote (EditLimits question held) at true e right h = cc
   bounds_of_quote (SpreadBounds asked held) at false e right h = cc
-  bounds_of_quote (SpreadBounds asked held) at true e right h = of_spread asked held (same_spread asked spread) refl (right.right (eqb-true at (revision H) e)) h
+  bounds_of_quote (SpreadBounds asked held) at true e right h =
+      of_same (AreRightBoundsOf market.network H u) same_spread same_spread_is asked spread held intervals (same_spread asked spread) refl (right.right (eqb-true at (revision H) e)) h
 
   pub current_bounds_right : (o : Option Quote) → IfSome o (IsRightQuote market H u) → current_bounds o spread (revision H) ≡ Some intervals
       → AreRightBoundsOf market.network H u spread intervals

@@ -1,5 +1,6 @@
 -- Refusals, replies, quotes and a short run in small markets.
 use Rattle.std.specs.Prelude.{◌≡◌, ℕ, List, [], ◌∷◌, ◌++◌, false, map, replicate, codes, Option, Some, None}
+use Prim.Native.String.{String}
 use Rattle.std.specs.List.{range_with_len}
 use Rattle.mk_net.specs.declared.words.PairText.{PairText}
 use Rattle.mk_net.specs.declared.words.QuestionText.{QuestionText}
@@ -51,20 +52,15 @@ words variable value = record { variable = variable; value = value }
 abbrev pub question : PairText → List PairText → QuestionText
 question target condition = record { target = target; condition = record { items = condition } }
 
-abbrev pub a_up : PairText
-a_up = words (codes "a") (codes "up")
+-- a variable of the chain is up, down, or left, which is no value of it
+abbrev pub up : String → PairText
+up variable = words (codes variable) (codes "up")
 
-abbrev pub b_up : PairText
-b_up = words (codes "b") (codes "up")
+abbrev pub down : String → PairText
+down variable = words (codes variable) (codes "down")
 
-abbrev pub c_up : PairText
-c_up = words (codes "c") (codes "up")
-
-abbrev pub c_left : PairText
-c_left = words (codes "c") (codes "left")
-
-abbrev pub c_down : PairText
-c_down = words (codes "c") (codes "down")
+abbrev pub left : String → PairText
+left variable = words (codes variable) (codes "left")
 
 abbrev pub rain : PairText
 rain = words (codes "rain") (codes "yes")
@@ -104,16 +100,18 @@ crowd number = map (λ (byte : ℕ). Join (byte ∷ [])) (range_with_len 0 numbe
 -- each refusal where it comes first, and commands that meet none
 pub record AreRefused : Type 0 where
   pub settled : first_refusal coin_market all_paid (Price is_heads) ≡ Some IsSettled
-  pub no_user : first_refusal chain_market [] (Edit (codes "zed") (question c_up (a_up ∷ [])) 500000 None) ≡ Some (NoUser (codes "zed"))
+  pub no_user : first_refusal chain_market []
+      (Edit (codes "zed") (question (up "c") (up "a" ∷ [])) 500000 None)
+      ≡ Some (NoUser (codes "zed"))
   pub exists : first_refusal coin_market deposited_one (User alice) ≡ Some (Exists alice)
   pub crowded : first_refusal coin_market (crowd 256) (User alice) ≡ Some (Users 256)
   pub one_more : first_refusal coin_market (crowd 255) (User alice) ≡ None
-  pub unknown : first_refusal chain_market [] (Price (question c_left [])) ≡ Some (Unknown c_left)
-  pub twice : first_refusal chain_market [] (Price (question c_up (b_up ∷ c_down ∷ []))) ≡ Some (Twice (codes "c"))
+  pub unknown : first_refusal chain_market [] (Price (question (left "c") [])) ≡ Some (Unknown (left "c"))
+  pub twice : first_refusal chain_market [] (Price (question (up "c") (up "b" ∷ down "c" ∷ []))) ≡ Some (Twice (codes "c"))
   pub stale : first_refusal coin_market both_joined (Edit bob is_heads 600000 (Some 3)) ≡ Some (Stale 3 4)
   pub resolved : first_refusal coin_market heads_up (Price is_heads) ≡ Some (Resolved (codes "coin"))
   pub impossible : first_refusal weather_market dry (Price (question rain (wet ∷ []))) ≡ Some (Impossible wet)
-  pub wide : first_refusal chain_market [] (Price (question c_up (a_up ∷ []))) ≡ Some Wide
+  pub wide : first_refusal chain_market [] (Price (question (up "c") (up "a" ∷ []))) ≡ Some Wide
   pub to_0 : first_refusal coin_market deposited_one (Edit alice is_heads 0 None) ≡ Some (Range 0)
   pub to_million : first_refusal coin_market deposited_one (Edit alice is_heads 1000000 None) ≡ Some (Range 1000000)
   pub many_bits : first_refusal coin_market deposited_one (Deposit alice 1001) ≡ Some (Range 1001)
@@ -122,21 +120,12 @@ pub record AreRefused : Type 0 where
   pub no_longer : first_refusal weather_market dry (Resolve wet) ≡ Some (Resolved (codes "season"))
   pub not_stale : first_refusal coin_market both_joined (Edit bob is_heads 600000 (Some 4)) ≡ None
   pub not_full : first_refusal coin_market heads_taken (Edit alice is_heads 500000 None) ≡ None
-  pub in_a_clique : first_refusal chain_market [] (Price (question b_up [])) ≡ None
-  pub under_a_condition : first_refusal chain_market [] (Price (question a_up (b_up ∷ []))) ≡ None
+  pub in_a_clique : first_refusal chain_market [] (Price (question (up "b") [])) ≡ None
+  pub under_a_condition : first_refusal chain_market [] (Price (question (up "a") (up "b" ∷ []))) ≡ None
 
 -- a user whom nobody knows, and more pairs of words
 abbrev pub zed : List ℕ
 zed = codes "zed"
-
-abbrev pub a_down : PairText
-a_down = words (codes "a") (codes "down")
-
-abbrev pub b_down : PairText
-b_down = words (codes "b") (codes "down")
-
-abbrev pub b_left : PairText
-b_left = words (codes "b") (codes "left")
 
 abbrev pub side : PairText
 side = words (codes "coin") (codes "side")
@@ -162,24 +151,32 @@ pub record ComeInOrder : Type 0 where
   pub withdraw_range : first_refusal coin_market many_transfers (Withdraw alice 1001) ≡ Some (Range 1001)
   pub withdraw_full : first_refusal coin_market many_transfers (Withdraw alice 1) ≡ Some (Full 65536)
   pub price_settled : first_refusal coin_market all_paid (Price (question side [])) ≡ Some IsSettled
-  pub price_unknown : first_refusal chain_market [] (Price (question c_left (c_down ∷ []))) ≡ Some (Unknown c_left)
-  pub price_twice : first_refusal chain_market two_up (Price (question a_up (a_up ∷ []))) ≡ Some (Twice (codes "a"))
-  pub price_resolved : first_refusal chain_market two_up (Price (question a_up (b_down ∷ []))) ≡ Some (Resolved (codes "a"))
-  pub price_impossible : first_refusal chain_market two_up (Price (question c_up (a_down ∷ []))) ≡ Some (Impossible a_down)
+  pub price_unknown : first_refusal chain_market [] (Price (question (left "c") (down "c" ∷ []))) ≡ Some (Unknown (left "c"))
+  pub price_twice : first_refusal chain_market two_up (Price (question (up "a") (up "a" ∷ []))) ≡ Some (Twice (codes "a"))
+  pub price_resolved : first_refusal chain_market two_up (Price (question (up "a") (down "b" ∷ []))) ≡ Some (Resolved (codes "a"))
+  pub price_impossible : first_refusal chain_market two_up (Price (question (up "c") (down "a" ∷ []))) ≡ Some (Impossible (down "a"))
   pub limits_settled : first_refusal coin_market all_paid (Limits zed is_heads) ≡ Some IsSettled
-  pub limits_no_user : first_refusal chain_market [] (Limits zed (question c_left [])) ≡ Some (NoUser zed)
-  pub limits_unknown : first_refusal chain_market two_up (Limits alice (question c_up (b_left ∷ b_up ∷ []))) ≡ Some (Unknown b_left)
-  pub limits_twice : first_refusal chain_market two_up (Limits alice (question a_up (a_up ∷ []))) ≡ Some (Twice (codes "a"))
-  pub limits_resolved : first_refusal chain_market two_up (Limits alice (question a_up (b_down ∷ []))) ≡ Some (Resolved (codes "a"))
-  pub limits_impossible : first_refusal chain_market two_up (Limits alice (question c_up (a_down ∷ []))) ≡ Some (Impossible a_down)
+  pub limits_no_user : first_refusal chain_market [] (Limits zed (question (left "c") [])) ≡ Some (NoUser zed)
+  pub limits_unknown : first_refusal chain_market two_up
+      (Limits alice (question (up "c") (left "b" ∷ up "b" ∷ [])))
+      ≡ Some (Unknown (left "b"))
+  pub limits_twice : first_refusal chain_market two_up (Limits alice (question (up "a") (up "a" ∷ []))) ≡ Some (Twice (codes "a"))
+  pub limits_resolved : first_refusal chain_market two_up (Limits alice (question (up "a") (down "b" ∷ []))) ≡ Some (Resolved (codes "a"))
+  pub limits_impossible : first_refusal chain_market two_up (Limits alice (question (up "c") (down "a" ∷ []))) ≡ Some (Impossible (down "a"))
   pub edit_settled : first_refusal coin_market all_paid (Edit zed is_heads 600000 None) ≡ Some IsSettled
-  pub edit_no_user : first_refusal chain_market [] (Edit zed (question c_left []) 600000 None) ≡ Some (NoUser zed)
-  pub edit_unknown : first_refusal chain_market two_up (Edit alice (question c_up (b_left ∷ b_up ∷ [])) 600000 None) ≡ Some (Unknown b_left)
-  pub edit_twice : first_refusal chain_market two_up (Edit alice (question c_up (c_down ∷ [])) 600000 (Some 4)) ≡ Some (Twice (codes "c"))
-  pub edit_stale : first_refusal chain_market two_up (Edit alice (question a_up []) 600000 (Some 4)) ≡ Some (Stale 4 3)
-  pub edit_resolved : first_refusal chain_market two_up (Edit alice (question a_up (b_down ∷ [])) 600000 None) ≡ Some (Resolved (codes "a"))
-  pub edit_impossible : first_refusal chain_market two_up (Edit alice (question c_up (a_down ∷ [])) 600000 None) ≡ Some (Impossible a_down)
-  pub edit_wide : first_refusal chain_market two_up (Edit alice (question c_up (a_up ∷ [])) 0 None) ≡ Some Wide
+  pub edit_no_user : first_refusal chain_market [] (Edit zed (question (left "c") []) 600000 None) ≡ Some (NoUser zed)
+  pub edit_unknown : first_refusal chain_market two_up
+      (Edit alice (question (up "c") (left "b" ∷ up "b" ∷ [])) 600000 None)
+      ≡ Some (Unknown (left "b"))
+  pub edit_twice : first_refusal chain_market two_up
+      (Edit alice (question (up "c") (down "c" ∷ [])) 600000 (Some 4))
+      ≡ Some (Twice (codes "c"))
+  pub edit_stale : first_refusal chain_market two_up (Edit alice (question (up "a") []) 600000 (Some 4)) ≡ Some (Stale 4 3)
+  pub edit_resolved : first_refusal chain_market two_up (Edit alice (question (up "a") (down "b" ∷ [])) 600000 None) ≡ Some (Resolved (codes "a"))
+  pub edit_impossible : first_refusal chain_market two_up
+      (Edit alice (question (up "c") (down "a" ∷ [])) 600000 None)
+      ≡ Some (Impossible (down "a"))
+  pub edit_wide : first_refusal chain_market two_up (Edit alice (question (up "c") (up "a" ∷ [])) 0 None) ≡ Some Wide
   pub edit_range : first_refusal one_trade heads_taken (Edit alice is_heads 1000000 None) ≡ Some (Range 1000000)
   pub worst_settled : first_refusal coin_market all_paid (Worst zed) ≡ Some IsSettled
   pub resolve_settled : first_refusal coin_market all_paid (Resolve side) ≡ Some IsSettled
@@ -193,8 +190,8 @@ pub record AreAnswered : Type 0 where
   pub price : IsAllowed coin_market [] [] (Price is_heads) (Priced 5000000000 5000000000)
   pub not_narrow : IsAllowed coin_market [] [] (Price is_heads) (Priced 4999999999 5000000000) → ⊥
   pub not_refused : IsAllowed coin_market [] [] (Price is_heads) (Refused (Resolved (codes "coin"))) → ⊥
-  pub refused : IsAllowed chain_market [] [] (Price (question c_up (a_up ∷ []))) (Refused Wide)
-  pub not_answered : (low high : ℕ) → IsAllowed chain_market [] [] (Price (question c_up (a_up ∷ []))) (Priced low high) → ⊥
+  pub refused : IsAllowed chain_market [] [] (Price (question (up "c") (up "a" ∷ []))) (Refused Wide)
+  pub not_answered : (low high : ℕ) → IsAllowed chain_market [] [] (Price (question (up "c") (up "a" ∷ []))) (Priced low high) → ⊥
   pub joined : IsAllowed coin_market [] [] (User alice) (Joined alice 1)
   pub no_memory : IsAllowed coin_market [] [] (User alice) (Refused Memory)
   pub same_revision : IsAllowed coin_market [] [] (User alice) (Joined alice 0) → ⊥

@@ -16,7 +16,9 @@ use Rattle.mk_reply.specs.declared.reply.Reply.TheVariants.{Bounded, Spreaded, R
 use Rattle.mk_rules.specs.Refusals.{first_refusal}
 use Rattle.mk_rules.specs.Quotes.{Quote, Quotes, SpreadBounds, current_limits, current_bounds}
 use Rattle.mk_rules.specs.Answers.{IsAllowed, next_history, next_quotes}
-use Rattle.mk_rules.specs.Examples.{coin_market, one_trade, die_market, weather_market, chain_market, bob, zed, a_up, a_down, b_up, b_down, b_left, c_up, c_down, wet, both_joined, heads_up, all_paid, dry, two_up, under_both, quote_of}
+use Rattle.mk_rules.specs.Examples.{coin_market, one_trade, die_market, weather_market}
+use Rattle.mk_rules.specs.Examples.{chain_market, bob, zed, wet, both_joined, heads_up, all_paid}
+use Rattle.mk_rules.specs.Examples.{dry, two_up, under_both, quote_of, up, down, left}
 
 -- the bounds of a variable under a condition, and a spread over its values
 abbrev pub bounds_over : List ℕ → List ℕ → List PairText → Command
@@ -36,13 +38,13 @@ pub record AreSpreadsRefused : Type 0 where
   pub settled : first_refusal coin_market all_paid (of_coin alice (600000 ∷ 400000 ∷ []) None) ≡ Some IsSettled
   pub no_user : first_refusal coin_market deposited_one (of_coin bob (600000 ∷ 400000 ∷ []) None) ≡ Some (NoUser bob)
   pub no_variable : first_refusal coin_market deposited_one (spread_over alice (codes "die") [] (600000 ∷ 400000 ∷ []) None) ≡ Some (NoVariable (codes "die"))
-  pub unknown : first_refusal chain_market (Join alice ∷ []) (of_chain (codes "c") (b_left ∷ [])) ≡ Some (Unknown b_left)
-  pub twice : first_refusal chain_market (Join alice ∷ []) (of_chain (codes "c") (b_up ∷ b_down ∷ [])) ≡ Some (Twice (codes "b"))
-  pub own_variable : first_refusal chain_market (Join alice ∷ []) (of_chain (codes "c") (b_up ∷ c_up ∷ [])) ≡ Some (Twice (codes "c"))
+  pub unknown : first_refusal chain_market (Join alice ∷ []) (of_chain (codes "c") (left "b" ∷ [])) ≡ Some (Unknown (left "b"))
+  pub twice : first_refusal chain_market (Join alice ∷ []) (of_chain (codes "c") (up "b" ∷ down "b" ∷ [])) ≡ Some (Twice (codes "b"))
+  pub own_variable : first_refusal chain_market (Join alice ∷ []) (of_chain (codes "c") (up "b" ∷ up "c" ∷ [])) ≡ Some (Twice (codes "c"))
   pub stale : first_refusal coin_market both_joined (of_coin bob (600000 ∷ 400000 ∷ []) (Some 3)) ≡ Some (Stale 3 4)
   pub resolved : first_refusal coin_market heads_up (of_coin bob (600000 ∷ 400000 ∷ []) None) ≡ Some (Resolved (codes "coin"))
   pub impossible : first_refusal weather_market dry (spread_over (codes "ann") (codes "rain") (wet ∷ []) (600000 ∷ 400000 ∷ []) None) ≡ Some (Impossible wet)
-  pub wide : first_refusal chain_market (Join alice ∷ []) (of_chain (codes "c") (a_up ∷ [])) ≡ Some Wide
+  pub wide : first_refusal chain_market (Join alice ∷ []) (of_chain (codes "c") (up "a" ∷ [])) ≡ Some Wide
   pub one_more : first_refusal coin_market deposited_one (of_coin alice (600000 ∷ 300000 ∷ 100000 ∷ []) None) ≡ Some (Numbers 3)
   pub to_0 : first_refusal coin_market deposited_one (of_coin alice (1000000 ∷ 0 ∷ []) None) ≡ Some (Range 1000000)
   pub to_million : first_refusal coin_market deposited_one (of_coin alice (0 ∷ 1000000 ∷ []) None) ≡ Some (Range 0)
@@ -50,27 +52,29 @@ pub record AreSpreadsRefused : Type 0 where
   pub one_less : first_refusal coin_market deposited_one (of_coin alice (600000 ∷ 399999 ∷ []) None) ≡ Some (Sum 999999)
   pub full : first_refusal one_trade heads_taken (of_coin alice (600000 ∷ 400000 ∷ []) None) ≡ Some (Full 1)
   pub not_stale : first_refusal coin_market both_joined (of_coin bob (999999 ∷ 1 ∷ []) (Some 4)) ≡ None
-  pub under_a_condition : first_refusal chain_market (Join alice ∷ []) (of_chain (codes "a") (b_up ∷ [])) ≡ None
+  pub under_a_condition : first_refusal chain_market (Join alice ∷ []) (of_chain (codes "a") (up "b" ∷ [])) ≡ None
   pub bounds_at_full : first_refusal one_trade heads_taken (bounds_over alice (codes "coin") []) ≡ None
 
 -- where two refusals apply, this one of them comes first: for each two neighbours of a command's list
 pub record SpreadsComeInOrder : Type 0 where
   pub bounds_settled : first_refusal coin_market all_paid (bounds_over zed (codes "coin") []) ≡ Some IsSettled
   pub bounds_no_user : first_refusal chain_market [] (bounds_over zed (codes "d") []) ≡ Some (NoUser zed)
-  pub bounds_no_variable : first_refusal chain_market two_up (bounds_over alice (codes "d") (b_left ∷ [])) ≡ Some (NoVariable (codes "d"))
-  pub bounds_unknown : first_refusal chain_market two_up (bounds_over alice (codes "c") (b_left ∷ b_up ∷ [])) ≡ Some (Unknown b_left)
-  pub bounds_twice : first_refusal chain_market two_up (bounds_over alice (codes "a") (a_up ∷ [])) ≡ Some (Twice (codes "a"))
-  pub bounds_resolved : first_refusal chain_market two_up (bounds_over alice (codes "a") (b_down ∷ [])) ≡ Some (Resolved (codes "a"))
-  pub bounds_impossible : first_refusal chain_market two_up (bounds_over alice (codes "c") (a_down ∷ [])) ≡ Some (Impossible a_down)
+  pub bounds_no_variable : first_refusal chain_market two_up (bounds_over alice (codes "d") (left "b" ∷ [])) ≡ Some (NoVariable (codes "d"))
+  pub bounds_unknown : first_refusal chain_market two_up (bounds_over alice (codes "c") (left "b" ∷ up "b" ∷ [])) ≡ Some (Unknown (left "b"))
+  pub bounds_twice : first_refusal chain_market two_up (bounds_over alice (codes "a") (up "a" ∷ [])) ≡ Some (Twice (codes "a"))
+  pub bounds_resolved : first_refusal chain_market two_up (bounds_over alice (codes "a") (down "b" ∷ [])) ≡ Some (Resolved (codes "a"))
+  pub bounds_impossible : first_refusal chain_market two_up (bounds_over alice (codes "c") (down "a" ∷ [])) ≡ Some (Impossible (down "a"))
   pub spread_settled : first_refusal coin_market all_paid (of_coin zed (600000 ∷ 400000 ∷ []) None) ≡ Some IsSettled
   pub spread_no_user : first_refusal chain_market [] (spread_over zed (codes "d") [] (600000 ∷ 400000 ∷ []) None) ≡ Some (NoUser zed)
-  pub spread_no_variable : first_refusal chain_market two_up (of_chain (codes "d") (b_left ∷ [])) ≡ Some (NoVariable (codes "d"))
-  pub spread_unknown : first_refusal chain_market two_up (of_chain (codes "c") (b_left ∷ b_up ∷ [])) ≡ Some (Unknown b_left)
-  pub spread_twice : first_refusal chain_market two_up (spread_over alice (codes "c") (c_down ∷ []) (600000 ∷ 400000 ∷ []) (Some 4)) ≡ Some (Twice (codes "c"))
+  pub spread_no_variable : first_refusal chain_market two_up (of_chain (codes "d") (left "b" ∷ [])) ≡ Some (NoVariable (codes "d"))
+  pub spread_unknown : first_refusal chain_market two_up (of_chain (codes "c") (left "b" ∷ up "b" ∷ [])) ≡ Some (Unknown (left "b"))
+  pub spread_twice : first_refusal chain_market two_up
+      (spread_over alice (codes "c") (down "c" ∷ []) (600000 ∷ 400000 ∷ []) (Some 4))
+      ≡ Some (Twice (codes "c"))
   pub spread_stale : first_refusal chain_market two_up (spread_over alice (codes "a") [] (600000 ∷ 400000 ∷ []) (Some 4)) ≡ Some (Stale 4 3)
-  pub spread_resolved : first_refusal chain_market two_up (of_chain (codes "a") (b_down ∷ [])) ≡ Some (Resolved (codes "a"))
-  pub spread_impossible : first_refusal chain_market two_up (of_chain (codes "c") (a_down ∷ [])) ≡ Some (Impossible a_down)
-  pub spread_wide : first_refusal chain_market two_up (spread_over alice (codes "c") (a_up ∷ []) (1000000 ∷ []) None) ≡ Some Wide
+  pub spread_resolved : first_refusal chain_market two_up (of_chain (codes "a") (down "b" ∷ [])) ≡ Some (Resolved (codes "a"))
+  pub spread_impossible : first_refusal chain_market two_up (of_chain (codes "c") (down "a" ∷ [])) ≡ Some (Impossible (down "a"))
+  pub spread_wide : first_refusal chain_market two_up (spread_over alice (codes "c") (up "a" ∷ []) (1000000 ∷ []) None) ≡ Some Wide
   pub spread_numbers : first_refusal coin_market deposited_one (of_coin alice (1000000 ∷ []) None) ≡ Some (Numbers 1)
   pub spread_range : first_refusal coin_market deposited_one (of_coin alice (1000000 ∷ 1 ∷ []) None) ≡ Some (Range 1000000)
   pub spread_sum : first_refusal one_trade heads_taken (of_coin alice (600000 ∷ 400001 ∷ []) None) ≡ Some (Sum 1000001)

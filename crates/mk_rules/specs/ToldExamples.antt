@@ -14,8 +14,8 @@ use Rattle.mk_reply.specs.declared.reply.Reply.TheVariants.{Prices as Told, Posi
 use Rattle.mk_reply.specs.declared.reply.Reply.TheVariants.{Status as Counted}
 use Rattle.mk_rules.specs.Refusals.{first_refusal}
 use Rattle.mk_rules.specs.Answers.{IsAllowed, next_history, next_quotes}
-use Rattle.mk_rules.specs.Examples.{coin_market, weather_market, chain_market, words, zed}
-use Rattle.mk_rules.specs.Examples.{a_up, a_down, b_up, b_down, b_left, heads_up, all_paid, two_up}
+use Rattle.mk_rules.specs.Examples.{coin_market, weather_market, chain_market, words, zed, up, down, left}
+use Rattle.mk_rules.specs.Examples.{heads_up, all_paid, two_up}
 use Rattle.mk_rules.specs.Examples.{dry}
 
 abbrev pub prices_of : List ℕ → List PairText → Command
@@ -53,16 +53,16 @@ a_cup = words (codes "w") (codes "a")
 -- list
 pub record ToldInOrder : Type 0 where
   pub settled : first_refusal coin_market all_paid (prices_of (codes "d") []) ≡ Some IsSettled
-  pub no_variable : first_refusal chain_market two_up (prices_of (codes "d") (b_left ∷ []))
+  pub no_variable : first_refusal chain_market two_up (prices_of (codes "d") (left "b" ∷ []))
       ≡ Some (NoVariable (codes "d"))
   pub unknown : first_refusal chain_market two_up
-      (prices_of (codes "c") (b_left ∷ b_up ∷ b_up ∷ [])) ≡ Some (Unknown b_left)
-  pub twice : first_refusal chain_market two_up (prices_of (codes "a") (a_up ∷ []))
+      (prices_of (codes "c") (left "b" ∷ up "b" ∷ up "b" ∷ [])) ≡ Some (Unknown (left "b"))
+  pub twice : first_refusal chain_market two_up (prices_of (codes "a") (up "a" ∷ []))
       ≡ Some (Twice (codes "a"))
-  pub resolved : first_refusal chain_market two_up (prices_of (codes "a") (b_down ∷ []))
+  pub resolved : first_refusal chain_market two_up (prices_of (codes "a") (down "b" ∷ []))
       ≡ Some (Resolved (codes "a"))
-  pub impossible : first_refusal chain_market two_up (prices_of (codes "c") (a_down ∷ []))
-      ≡ Some (Impossible a_down)
+  pub impossible : first_refusal chain_market two_up (prices_of (codes "c") (down "a" ∷ []))
+      ≡ Some (Impossible (down "a"))
   pub wide : first_refusal cup_apart [] (prices_of (codes "s2") (b_won ∷ a_cup ∷ [])) ≡ Some Wide
   pub cannot_come : first_refusal cup_market [] (prices_of (codes "s2") (b_won ∷ a_cup ∷ []))
       ≡ Some (Impossible a_cup)
@@ -72,15 +72,15 @@ pub record ToldInOrder : Type 0 where
       ≡ Some IsSettled
   pub of_no_user : first_refusal coin_market [] (position_of zed (codes "d") []) ≡ Some (NoUser zed)
   pub of_no_variable : first_refusal chain_market two_up
-      (position_of alice (codes "d") (b_left ∷ [])) ≡ Some (NoVariable (codes "d"))
+      (position_of alice (codes "d") (left "b" ∷ [])) ≡ Some (NoVariable (codes "d"))
   pub of_unknown : first_refusal chain_market two_up
-      (position_of alice (codes "c") (b_left ∷ b_up ∷ b_up ∷ [])) ≡ Some (Unknown b_left)
-  pub of_twice : first_refusal chain_market two_up (position_of alice (codes "a") (a_up ∷ []))
+      (position_of alice (codes "c") (left "b" ∷ up "b" ∷ up "b" ∷ [])) ≡ Some (Unknown (left "b"))
+  pub of_twice : first_refusal chain_market two_up (position_of alice (codes "a") (up "a" ∷ []))
       ≡ Some (Twice (codes "a"))
-  pub of_resolved : first_refusal chain_market two_up (position_of alice (codes "a") (b_down ∷ []))
+  pub of_resolved : first_refusal chain_market two_up (position_of alice (codes "a") (down "b" ∷ []))
       ≡ Some (Resolved (codes "a"))
   pub of_impossible : first_refusal chain_market two_up
-      (position_of alice (codes "c") (a_down ∷ [])) ≡ Some (Impossible a_down)
+      (position_of alice (codes "c") (down "a" ∷ [])) ≡ Some (Impossible (down "a"))
   pub of_wide : first_refusal cup_apart (Join alice ∷ [])
       (position_of alice (codes "s2") (b_won ∷ a_cup ∷ [])) ≡ Some Wide
   pub of_no_state : first_refusal cup_market (Join alice ∷ [])
