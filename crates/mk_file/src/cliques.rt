@@ -1,6 +1,7 @@
 //! The cliques and links of a market file.
 
 ghost use Rattle.std.specs.Prelude.{◌≡◌, ◌≢◌, ◌-◌, ◌<◌, ◌≤◌, length, map, position, nat_abs, string_bytes, All, None, Some, IfSome, IfErr, IfOk, not, is_none};
+ghost use Rattle.mk_net.specs.Bounds.{max_cliques};
 ghost use Rattle.mk_file.specs.Below.{IsName, same_text, texts_of, first_in};
 ghost use Rattle.mk_file.specs.Counts.{is_whole_within};
 ghost use Rattle.mk_file.specs.Cliques.{link_at};
@@ -49,7 +50,7 @@ pub fn read_cliques(
     cliques: &[Vec<String>],
 ) -> Result<Vec<VarSet>, FileFault>
     requires names { All (λ v. IsName v.name) net.now }
-    requires few { length cliques.now ≤ 256 }
+    requires few { length cliques.now ≤ max_cliques }
     ensures faultless { IfOk result (λ _. first_in (clique_in net.now) 1 (map texts_of cliques.now) ≡ None) }
     ensures sets { IfOk result (λ read. read.items ≡ map (set_in net.now) (map texts_of cliques.now)) }
     ensures within { IfOk result (λ read. All (λ set. IsSetOf net.now set) read.items) }
@@ -80,7 +81,7 @@ fn read_link(clique: u32, link: i64) -> Option<u32>
 
 /// The links, or the fault of the first that does not lead to an earlier clique.
 pub fn read_links(alloc: Global, links: &[i64]) -> Result<Vec<u32>, FileFault>
-    requires { length links.now < 256 }
+    requires { length links.now < max_cliques }
     ensures faultless { IfOk result (λ _. first_in link_at 2 links.now ≡ None) }
     ensures links { IfOk result (λ read. read.items ≡ map nat_abs links.now) }
     ensures fault { IfErr result (λ fault. fault ≢ FileFault.Memory → first_in link_at 2 links.now ≡ Some fault) }

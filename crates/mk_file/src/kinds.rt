@@ -1,105 +1,126 @@
 //! The kinds of values that a market file holds, as owned copies: `None` where a value is of another kind.
 
-ghost use Rattle.std.specs.Prelude.{◌≡◌, IfOk, option_map, string_bytes};
-ghost use Rattle.mk_file.specs.Below.{as_str, as_table, view, texts_of, rows_of};
-ghost use Rattle.mk_file.specs.Walk.{list_of, texts, wholes};
-ghost use Rattle.mk_file.specs.inner.Views.{lists_of, tables_of};
+ghost use Rattle.std.specs.Prelude.{◌≡◌, IfOk, map, option_map};
+ghost use Rattle.mk_file.specs.Below.{view};
+ghost use Rattle.mk_file.specs.Walk.{list_of};
 
 use std::alloc::{AllocError, Global};
 use toml::{Table, Value};
 
+/// A kind of value.
+pub trait Kind<'a>: Drop {
+    ghost use Rattle.std.specs.Prelude.{Option};
+    ghost use Rattle.toml.specs.Data.{Data};
+
+    ghost Seen: { Type 0 };
+
+    ghost seen: { Self → Seen };
+
+    ghost kind: { Data → Option Seen };
+
+    /// The value as one of this kind.
+    fn read(alloc: Global, value: &'a Value) -> Result<Option<Self>, AllocError>
+        ensures { IfOk result (λ read. option_map seen read ≡ kind (view value.now)) };
+}
+
 /// A text.
-pub fn read_text(alloc: Global, value: &Value) -> Result<Option<String>, AllocError>
-    ensures { IfOk result (λ read. option_map (λ s. string_bytes s) read ≡ as_str (view value.now)) }
-{
-    match value.as_str() {
-        Some(text) => Ok(Some(String::from_str(alloc, text)?)),
-        None => Ok(None),
+impl<'a> Kind<'a> for String {
+    ghost use Rattle.std.specs.Prelude.{ℕ, List, string_bytes};
+    ghost use Rattle.toml.specs.Data.{as_str};
+
+    ghost Seen = { List ℕ };
+
+    ghost seen = { λ s. string_bytes s };
+
+    ghost kind = { as_str };
+
+    fn read(alloc: Global, value: &'a Value) -> Result<Option<String>, AllocError> {
+        match value.as_str() {
+            Some(text) => Ok(Some(String::from_str(alloc, text)?)),
+            None => Ok(None),
+        }
+    }
+}
+
+/// A whole number.
+impl<'a> Kind<'a> for i64 {
+    ghost use Rattle.std.specs.Prelude.{ℤ};
+    ghost use Rattle.toml.specs.Data.{as_integer};
+
+    ghost Seen = { ℤ };
+
+    ghost seen = { λ z. z };
+
+    ghost kind = { as_integer };
+
+    fn read(_alloc: Global, value: &'a Value) -> Result<Option<i64>, AllocError> {
+        Ok(value.as_integer())
+    }
+}
+
+/// A table, which stays where it is.
+impl<'a> Kind<'a> for &'a Table {
+    ghost use Rattle.toml.specs.Data.{Members, as_table};
+    ghost use Rattle.toml.specs.View.{table_view};
+
+    ghost Seen = { Members };
+
+    ghost seen = { λ table. table_view table.now };
+
+    ghost kind = { as_table };
+
+    fn read(_alloc: Global, value: &'a Value) -> Result<Option<&'a Table>, AllocError> {
+        Ok(value.as_table())
     }
 }
 
 /// A list of texts.
-pub fn read_texts(alloc: Global, value: &Value) -> Result<Option<Vec<String>>, AllocError>
-    ensures { IfOk result (λ read. option_map texts_of read ≡ texts (view value.now)) }
-{
-    let Some(items) = value.as_array() else {
-        return Ok(None);
-    };
-    let mut read = Vec::new(alloc);
-    'items: for item in items {
-        match read_text(alloc, item)? {
-            Some(text) => read.push(text)?,
-            None => return Ok(None),
-        }
-    }
-    Ok(Some(read))
-}
+impl<'a> Kind<'a> for Vec<String> {
+    ghost use Rattle.std.specs.Prelude.{ℕ, List};
+    ghost use Rattle.mk_net.specs.Drafts.{texts_of};
+    ghost use Rattle.mk_file.specs.Walk.{texts};
 
-/// A list of lists of texts.
-pub fn read_lists(alloc: Global, value: &Value) -> Result<Option<Vec<Vec<String>>>, AllocError>
-    ensures { IfOk result (λ read. option_map lists_of read ≡ list_of texts (view value.now)) }
-{
-    let Some(items) = value.as_array() else {
-        return Ok(None);
-    };
-    let mut read = Vec::new(alloc);
-    'items: for item in items {
-        match read_texts(alloc, item)? {
-            Some(texts) => read.push(texts)?,
-            None => return Ok(None),
-        }
+    ghost Seen = { List (List ℕ) };
+
+    ghost seen = { texts_of };
+
+    ghost kind = { texts };
+
+    fn read(alloc: Global, value: &'a Value) -> Result<Option<Vec<String>>, AllocError> {
+        read_list(alloc, value)
     }
-    Ok(Some(read))
 }
 
 /// A list of whole numbers.
-pub fn read_wholes(alloc: Global, value: &Value) -> Result<Option<Vec<i64>>, AllocError>
-    ensures { IfOk result (λ read. option_map (λ v. v.items) read ≡ wholes (view value.now)) }
-{
-    let Some(items) = value.as_array() else {
-        return Ok(None);
-    };
-    let mut read = Vec::new(alloc);
-    'items: for item in items {
-        match item.as_integer() {
-            Some(whole) => read.push(whole)?,
-            None => return Ok(None),
-        }
+impl<'a> Kind<'a> for Vec<i64> {
+    ghost use Rattle.std.specs.Prelude.{ℤ, List};
+    ghost use Rattle.mk_file.specs.Walk.{wholes};
+
+    ghost Seen = { List ℤ };
+
+    ghost seen = { λ v. v.items };
+
+    ghost kind = { wholes };
+
+    fn read(alloc: Global, value: &'a Value) -> Result<Option<Vec<i64>>, AllocError> {
+        read_list(alloc, value)
     }
-    Ok(Some(read))
 }
 
-/// A list of rows of whole numbers.
-pub fn read_rows(alloc: Global, value: &Value) -> Result<Option<Vec<Vec<i64>>>, AllocError>
-    ensures { IfOk result (λ read. option_map rows_of read ≡ list_of wholes (view value.now)) }
-{
-    let Some(items) = value.as_array() else {
-        return Ok(None);
-    };
-    let mut read = Vec::new(alloc);
-    'items: for item in items {
-        match read_wholes(alloc, item)? {
-            Some(row) => read.push(row)?,
-            None => return Ok(None),
-        }
-    }
-    Ok(Some(read))
-}
-
-/// A list of tables, which stay where they are.
-pub fn read_tables<'a>(
+/// A list of values of a kind.
+pub fn read_list<'a, T: Kind<'a>>(
     alloc: Global,
     value: &'a Value,
-) -> Result<Option<Vec<&'a Table>>, AllocError>
-    ensures { IfOk result (λ read. option_map tables_of read ≡ list_of as_table (view value.now)) }
+) -> Result<Option<Vec<T>>, AllocError>
+    ensures { IfOk result (λ read. option_map (λ v. map T.seen v.items) read ≡ list_of T.kind (view value.now)) }
 {
     let Some(items) = value.as_array() else {
         return Ok(None);
     };
     let mut read = Vec::new(alloc);
     'items: for item in items {
-        match item.as_table() {
-            Some(table) => read.push(table)?,
+        match T::read(alloc, item)? {
+            Some(thing) => read.push(thing)?,
             None => return Ok(None),
         }
     }

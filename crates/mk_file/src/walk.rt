@@ -6,10 +6,7 @@ ghost use Rattle.mk_file.specs.Walk.{variable_in, variables_in, draft_in};
 ghost use Rattle.mk_file.specs.inner.Views.{Gives, draft_of};
 
 use crate::fault::FileFault;
-use crate::required::{
-    is_set, required_lists, required_rows, required_tables, required_text, required_texts,
-    required_whole, required_wholes, whole_or,
-};
+use crate::required::{is_set, required, required_list, whole_or};
 use mk_names::Key;
 use mk_names::limits::{USUAL_TRANSFERS, USUAL_USERS};
 use mk_net::{Draft, VariableDraft};
@@ -44,10 +41,10 @@ fn read_variable(alloc: Global, table: &Table, index: usize) -> Result<VariableD
     ensures { Gives draft_of_variable result (variable_in (index + 1) (table_view table.now)) }
 {
     let place = place_of(index)?;
-    let name = required_text(alloc, table, Key::Name, place)?;
-    let values = required_texts(alloc, table, Key::Values, place)?;
-    let parents = required_texts(alloc, table, Key::Parents, place)?;
-    let rows = required_rows(alloc, table, Key::Rows, place)?;
+    let name = required(alloc, table, Key::Name, place)?;
+    let values = required(alloc, table, Key::Values, place)?;
+    let parents = required(alloc, table, Key::Parents, place)?;
+    let rows = required_list(alloc, table, Key::Rows, place)?;
     Ok(VariableDraft {
         name,
         values,
@@ -72,13 +69,13 @@ fn read_variables(alloc: Global, tables: &[&Table]) -> Result<Vec<VariableDraft>
 pub fn read_draft(alloc: Global, document: &Table) -> Result<MarketDraft, FileFault>
     ensures { Gives draft_of result (draft_in (table_view document.now)) }
 {
-    let points_per_bit = required_whole(document, Key::PointsPerBit, 0)?;
-    let max_trades = required_whole(document, Key::MaxTrades, 0)?;
+    let points_per_bit = required(alloc, document, Key::PointsPerBit, 0)?;
+    let max_trades = required(alloc, document, Key::MaxTrades, 0)?;
     let max_users = whole_or(document, Key::MaxUsers, 0, USUAL_USERS as i64)?;
     let max_transfers = whole_or(document, Key::MaxTransfers, 0, USUAL_TRANSFERS as i64)?;
-    let tables = required_tables(alloc, document, Key::Variable, 0)?;
-    let cliques = required_lists(alloc, document, Key::Cliques, 0)?;
-    let links = required_wholes(alloc, document, Key::Links, 0)?;
+    let tables = required_list::<&Table>(alloc, document, Key::Variable, 0)?;
+    let cliques = required_list(alloc, document, Key::Cliques, 0)?;
+    let links = required(alloc, document, Key::Links, 0)?;
     let zeros = is_set(document, Key::Zeros, 0)?;
     let variables = read_variables(alloc, &tables)?;
     Ok(MarketDraft {
