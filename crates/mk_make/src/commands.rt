@@ -1,9 +1,11 @@
 //! The commands of the sample, written at the end of a text.
 
-ghost use Rattle.std.specs.Prelude.{◌≡◌, ◌<◌, ◌≤◌, ◌++◌, OnOk};
+ghost use Rattle.std.specs.Prelude.{◌≡◌, ◌≤◌, ◌++◌, OnOk};
 ghost use Rattle.std.specs.List.{flat_map};
+ghost use Rattle.mk_net.specs.Bounds.{max_variables};
 ghost use Rattle.mk_make.specs.Lines.{numbers_to};
-ghost use Rattle.mk_make.specs.Sample.{join_line, deposit_line, question_of, edit_line, edits_of, resolve_line, sample_commands};
+ghost use Rattle.mk_make.specs.Sample.{join_line, deposit_line, question_of, edit_line, resolve_line, sample_commands};
+ghost use Rattle.mk_make.specs.inner.Kinds.{HasVariables, line_text};
 
 use crate::words::{put_number, put_pair, put_text, put_user, value_at};
 use mk_net::NoMemory;
@@ -11,29 +13,54 @@ use mk_net::NoMemory;
 /// How many users there are.
 const USERS: u32 = 8;
 
+/// The lines of which there is one for each number from 1 on.
+#[derive(Clone, Copy)]
+enum Line {
+    Join,
+    Deposit,
+    Edit { variables: u32 },
+    Resolution,
+}
+
 /// Writes the commands to a market of `n` variables.
 #[tactic(auto, unfolding(crate::specs::Sample::sample_commands))]
 pub fn put_commands(out: &mut Vec<u8>, n: u32) -> Result<(), NoMemory>
     requires least { 2 ≤ n }
-    requires most { n ≤ 256 }
+    requires most { n ≤ max_variables }
     ensures { OnOk result (out.new.items ≡ out.old.items ++ sample_commands n) }
 {
-    put_joins(out, USERS)?;
-    put_deposits(out, USERS)?;
-    put_edits(out, n)?;
-    put_resolutions(out, n)?;
+    put_lines(out, Line::Join, USERS)?;
+    put_lines(out, Line::Deposit, USERS)?;
+    put_lines(out, Line::Edit { variables: n }, 5 * n / 2)?;
+    put_lines(out, Line::Resolution, n)?;
     put_text(out, "settle\n")
 }
 
+/// Writes a line for each number from 1 to `count`.
 #[tactic(auto, using(crate::proofs::GrowingLemmas::lines_more))]
-fn put_joins(out: &mut Vec<u8>, count: u32) -> Result<(), NoMemory>
-    requires { count < 256 }
-    ensures { OnOk result (out.new.items ≡ out.old.items ++ flat_map join_line (numbers_to count)) }
+fn put_lines(out: &mut Vec<u8>, line: Line, count: u32) -> Result<(), NoMemory>
+    requires some { HasVariables line }
+    requires most { count ≤ 640 }
+    ensures { OnOk result (out.new.items ≡ out.old.items ++ flat_map (line_text line) (numbers_to count)) }
 {
-    for user in 1..count + 1 {
-        put_join(out, user)?;
+    for number in 1..count + 1 {
+        put_line(out, line, number)?;
     }
     Ok(())
+}
+
+fn put_line(out: &mut Vec<u8>, line: Line, number: u32) -> Result<(), NoMemory>
+    requires some { HasVariables line }
+    requires first { 1 ≤ number }
+    requires last { number ≤ 640 }
+    ensures { OnOk result (out.new.items ≡ out.old.items ++ line_text line number) }
+{
+    match line {
+        Line::Join => put_join(out, number),
+        Line::Deposit => put_deposit(out, number),
+        Line::Edit { variables } => put_edit(out, variables, number),
+        Line::Resolution => put_resolution(out, number),
+    }
 }
 
 #[tactic(auto, unfolding(crate::specs::Sample::join_line))]
@@ -45,17 +72,6 @@ fn put_join(out: &mut Vec<u8>, user: u32) -> Result<(), NoMemory>
     put_text(out, "\n")
 }
 
-#[tactic(auto, using(crate::proofs::GrowingLemmas::lines_more))]
-fn put_deposits(out: &mut Vec<u8>, count: u32) -> Result<(), NoMemory>
-    requires { count < 256 }
-    ensures { OnOk result (out.new.items ≡ out.old.items ++ flat_map deposit_line (numbers_to count)) }
-{
-    for user in 1..count + 1 {
-        put_deposit(out, user)?;
-    }
-    Ok(())
-}
-
 #[tactic(auto, unfolding(crate::specs::Sample::deposit_line))]
 fn put_deposit(out: &mut Vec<u8>, user: u32) -> Result<(), NoMemory>
     ensures { OnOk result (out.new.items ≡ out.old.items ++ deposit_line user) }
@@ -63,18 +79,6 @@ fn put_deposit(out: &mut Vec<u8>, user: u32) -> Result<(), NoMemory>
     put_text(out, "deposit ")?;
     put_user(out, user)?;
     put_text(out, " 200\n")
-}
-
-#[tactic(auto, using(crate::proofs::GrowingLemmas::lines_more))]
-fn put_edits(out: &mut Vec<u8>, n: u32) -> Result<(), NoMemory>
-    requires least { 2 ≤ n }
-    requires most { n ≤ 256 }
-    ensures { OnOk result (out.new.items ≡ out.old.items ++ flat_map (edit_line n) (numbers_to (edits_of n))) }
-{
-    for number in 1..5 * n / 2 + 1 {
-        put_edit(out, n, number)?;
-    }
-    Ok(())
 }
 
 #[tactic(auto, unfolding(crate::specs::Sample::edit_line))]
@@ -105,17 +109,6 @@ fn put_question(out: &mut Vec<u8>, variable: u32, number: u32) -> Result<(), NoM
         put_text(out, " | ")?;
         put_pair(out, variable - 1, value_at(number))
     }
-}
-
-#[tactic(auto, using(crate::proofs::GrowingLemmas::lines_more))]
-fn put_resolutions(out: &mut Vec<u8>, n: u32) -> Result<(), NoMemory>
-    requires { n ≤ 256 }
-    ensures { OnOk result (out.new.items ≡ out.old.items ++ flat_map resolve_line (numbers_to n)) }
-{
-    for variable in 1..n + 1 {
-        put_resolution(out, variable)?;
-    }
-    Ok(())
 }
 
 #[tactic(auto, unfolding(crate::specs::Sample::resolve_line))]

@@ -1,6 +1,7 @@
 //! The market file of the sample, written at the end of a text.
 
 ghost use Rattle.std.specs.Prelude.{◌≡◌, ℕ, ◌-◌, ◌<◌, ◌≤◌, ◌++◌, OnOk};
+ghost use Rattle.mk_net.specs.Bounds.{max_variables};
 ghost use Rattle.mk_make.specs.Sample.{clique_of, cliques_line, links_line, file_head, dependence_lines, variable_part, sample_file};
 
 use crate::words::{put_comma, put_number, put_quoted, put_text};
@@ -10,7 +11,7 @@ use mk_net::NoMemory;
 #[tactic(auto, using(crate::proofs::GrowingLemmas::lines_more), unfolding(crate::specs::Sample::sample_file))]
 pub fn put_file(out: &mut Vec<u8>, n: u32) -> Result<(), NoMemory>
     requires least { 2 ≤ n }
-    requires most { n ≤ 256 }
+    requires most { n ≤ max_variables }
     ensures { OnOk result (out.new.items ≡ out.old.items ++ sample_file n) }
 {
     put_head(out, n)?;
@@ -23,7 +24,7 @@ pub fn put_file(out: &mut Vec<u8>, n: u32) -> Result<(), NoMemory>
 #[tactic(auto, unfolding(crate::specs::Sample::file_head))]
 fn put_head(out: &mut Vec<u8>, n: u32) -> Result<(), NoMemory>
     requires least { 2 ≤ n }
-    requires most { n ≤ 256 }
+    requires most { n ≤ max_variables }
     ensures { OnOk result (out.new.items ≡ out.old.items ++ file_head n) }
 {
     put_text(out, "points_per_bit = 100\nmax_trades = 1000\n")?;
@@ -34,7 +35,7 @@ fn put_head(out: &mut Vec<u8>, n: u32) -> Result<(), NoMemory>
 #[tactic(auto, using(crate::proofs::GrowingLemmas::items_more), unfolding(crate::specs::Sample::cliques_line))]
 fn put_cliques(out: &mut Vec<u8>, n: u32) -> Result<(), NoMemory>
     requires least { 2 ≤ n }
-    requires most { n ≤ 256 }
+    requires most { n ≤ max_variables }
     ensures { OnOk result (out.new.items ≡ out.old.items ++ cliques_line n) }
 {
     put_text(out, "cliques = [")?;
@@ -47,7 +48,7 @@ fn put_cliques(out: &mut Vec<u8>, n: u32) -> Result<(), NoMemory>
 
 #[tactic(auto, unfolding(crate::specs::Sample::clique_of))]
 fn put_clique(out: &mut Vec<u8>, variable: u32) -> Result<(), NoMemory>
-    requires { variable < 256 }
+    requires { variable < max_variables }
     ensures { OnOk result (out.new.items ≡ out.old.items ++ clique_of variable) }
 {
     put_text(out, "[")?;

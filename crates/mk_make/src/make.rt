@@ -1,6 +1,7 @@
 //! The file and the commands of a sample market.
 
 ghost use Rattle.std.specs.Prelude.{◌≡◌, ◌≤◌, IfOk};
+ghost use Rattle.mk_net.specs.Bounds.{max_variables};
 ghost use Rattle.mk_make.specs.Sample.{sample_file, sample_commands};
 
 use crate::commands::put_commands;
@@ -14,7 +15,7 @@ use std::alloc::Global;
 /// The texts are those of `sample_file` and `sample_commands` in `specs/`. Fails where memory is wanting.
 pub fn sample(alloc: Global, n: u32) -> Result<Sample, NoMemory>
     requires least { 2 ≤ n }
-    requires most { n ≤ 256 }
+    requires most { n ≤ max_variables }
     ensures file { IfOk result (λ s. s.file ≡ sample_file n) }
     ensures commands { IfOk result (λ s. s.commands ≡ sample_commands n) }
 {

@@ -1,36 +1,27 @@
-use Rattle.std.proofs.Common.{◌≡◌, ℕ, ◌+◌, ◌/◌, ◌%◌, ◌<◌, ◌≤◌, ◌^◌, List, [], ◌∷◌, ◌++◌, codes, decimal, refl, ap, ◌∙◌, lit<, lit≤}
+use Rattle.std.proofs.Common.{◌≡◌, ℕ, suc, ◌+◌, ◌/◌, ◌%◌, ◌<◌, ◌≤◌, ◌^◌, List, [], ◌∷◌, ◌++◌, codes, decimal, refl, ap, ◌∙◌, arith, lit<, lit≤}
 use Rattle.std.proofs.lemmas.Fmt.{decimal_digit, decimal_step}
+use Rattle.mk_text.specs.Numbers.{places}
 use Rattle.mk_make.specs.Sample.{edit_line, question_of, value_at}
 use Rattle.mk_make.proofs.examples.five_edits.Goals as goal
 
 -- a digit more
-more : (n : ℕ) (front : List ℕ) → 10 ≤ n → n < 2 ^ 64 → decimal (n / 10) ≡ front → decimal n ≡ front ++ (48 + n % 10) ∷ []
-more n front least most e = decimal_step n least most ∙ ap (λ (t : List ℕ). t ++ (48 + n % 10) ∷ []) e
+more : (n count : ℕ) → 10 ≤ n → n < 2 ^ 64 → decimal (n / 10) ≡ places count (n / 10)
+    → decimal n ≡ places (suc count) n
+unfolding places
+more n count least most e =
+    decimal_step n least most ∙ ap (λ (t : List ℕ). t ++ (48 + n % 10) ∷ []) e
 
-first_price : decimal 237123 ≡ codes "237123"
-first_price =
-    more 237123 (codes "23712") (lit≤ tt) (lit< tt) (more 23712 (codes "2371") (lit≤ tt) (lit< tt) (more 2371 (codes "237") (lit≤ tt) (lit< tt)
-    (more 237 (codes "23") (lit≤ tt) (lit< tt) (more 23 (codes "2") (lit≤ tt) (lit< tt) (decimal_digit 2 (lit< tt))))))
+last_digit : (n : ℕ) → n < 10 → decimal n ≡ places 1 n
+unfolding places
+last_digit n small = decimal_digit n small ∙ ap (λ (d : ℕ). (48 + d) ∷ []) (omega (arith, small))
 
-second_price : decimal 274246 ≡ codes "274246"
-second_price =
-    more 274246 (codes "27424") (lit≤ tt) (lit< tt) (more 27424 (codes "2742") (lit≤ tt) (lit< tt) (more 2742 (codes "274") (lit≤ tt) (lit< tt)
-    (more 274 (codes "27") (lit≤ tt) (lit< tt) (more 27 (codes "2") (lit≤ tt) (lit< tt) (decimal_digit 2 (lit< tt))))))
-
-third_price : decimal 311369 ≡ codes "311369"
-third_price =
-    more 311369 (codes "31136") (lit≤ tt) (lit< tt) (more 31136 (codes "3113") (lit≤ tt) (lit< tt) (more 3113 (codes "311") (lit≤ tt) (lit< tt)
-    (more 311 (codes "31") (lit≤ tt) (lit< tt) (more 31 (codes "3") (lit≤ tt) (lit< tt) (decimal_digit 3 (lit< tt))))))
-
-fourth_price : decimal 348492 ≡ codes "348492"
-fourth_price =
-    more 348492 (codes "34849") (lit≤ tt) (lit< tt) (more 34849 (codes "3484") (lit≤ tt) (lit< tt) (more 3484 (codes "348") (lit≤ tt) (lit< tt)
-    (more 348 (codes "34") (lit≤ tt) (lit< tt) (more 34 (codes "3") (lit≤ tt) (lit< tt) (decimal_digit 3 (lit< tt))))))
-
-fifth_price : decimal 385615 ≡ codes "385615"
-fifth_price =
-    more 385615 (codes "38561") (lit≤ tt) (lit< tt) (more 38561 (codes "3856") (lit≤ tt) (lit< tt) (more 3856 (codes "385") (lit≤ tt) (lit< tt)
-    (more 385 (codes "38") (lit≤ tt) (lit< tt) (more 38 (codes "3") (lit≤ tt) (lit< tt) (decimal_digit 3 (lit< tt))))))
+-- a price has six digits
+price : (n : ℕ) → 100000 ≤ n → n < 1000000 → decimal n ≡ places 6 n
+price n least most =
+    more n 5 (omega arith) (omega arith) (more (n / 10) 4 (omega arith) (omega arith)
+    (more (n / 10 / 10) 3 (omega arith) (omega arith) (more (n / 10 / 10 / 10) 2 (omega arith) (omega arith)
+    (more (n / 10 / 10 / 10 / 10) 1 (omega arith) (omega arith)
+    (last_digit (n / 10 / 10 / 10 / 10 / 10) (omega arith))))))
 
 one : decimal 1 ≡ codes "1"
 one = decimal_digit 1 (lit< tt)
@@ -39,12 +30,12 @@ two : decimal 2 ≡ codes "2"
 two = decimal_digit 2 (lit< tt)
 
 pub returns : goal.returns
-unfolding edit_line question_of value_at
+unfolding edit_line question_of value_at places
 returns c = record {
   five = refl;
-  first = rw (one, two, first_price);
-  second = rw (one, two, second_price);
-  third = rw (decimal_digit 3 (lit< tt), one, two, third_price);
-  fourth = rw (decimal_digit 4 (lit< tt), one, fourth_price);
-  fifth = rw (decimal_digit 5 (lit< tt), one, two, fifth_price);
+  first = rw (one, two, price 237123 (lit≤ tt) (lit< tt));
+  second = rw (one, two, price 274246 (lit≤ tt) (lit< tt));
+  third = rw (decimal_digit 3 (lit< tt), one, two, price 311369 (lit≤ tt) (lit< tt));
+  fourth = rw (decimal_digit 4 (lit< tt), one, price 348492 (lit≤ tt) (lit< tt));
+  fifth = rw (decimal_digit 5 (lit< tt), one, two, price 385615 (lit≤ tt) (lit< tt));
 }
