@@ -1,22 +1,6 @@
 -- What ends of the shares that are meant say of limits.
-use Rattle.std.proofs.Common.{
-  ◌≡◌,
-  ℕ,
-  ◌-◌,
-  ◌<◌,
-  ◌≤◌,
-  ◌⊎◌,
-  min,
-  max,
-  Option,
-  Some,
-  None,
-  inl,
-  inr,
-  arith,
-  le_refl,
-  le_trans,
-}
+use Rattle.std.proofs.Common.{◌≡◌, ℕ, ◌-◌, ◌<◌, ◌≤◌, ◌⊎◌, min, max, Option, Some, None, inl, inr}
+use Rattle.std.proofs.Common.{arith, le_refl, le_trans}
 use Rattle.std.proofs.lemmas.Bool.{cases_lt}
 use Rattle.mk_net.specs.Bounds.{million}
 use Rattle.mk_judge.specs.declared.judged.Judged.{Judged}
@@ -26,6 +10,17 @@ use Rattle.mk_judge.specs.Judged.{Judges}
 use Rattle.mk_judge.specs.Wanted.{HasEnds, LieInside}
 use Rattle.mk_judge.specs.inner.Within.{AllInside, SomeOutside, SaysInside}
 
+-- a share within the inner ends is meant
+pub meant_within : (wanted : Wanted) (IsMeant : ℕ → Type 0) (otherwise : Type 0)
+    → HasEnds wanted IsMeant otherwise → (X : ℕ) → wanted.inner_low ≤ X → X ≤ wanted.inner_high
+    → (1 ≤ X) × (X ≤ 999999) × IsMeant X
+meant_within wanted IsMeant otherwise ends X from to =
+    let p = wanted.positive in
+    let o = wanted.low in
+    let h = wanted.high in
+    let m = wanted.high_at_most in
+    (omega (arith, p, o, from), omega (arith, to, h, m), ends.inner X from to)
+
 -- a judgement of the ends is one of the shares
 pub inside_judges : (j : Judged) (wanted : Wanted) (limits : Option (ℕ × ℕ)) (IsMeant : ℕ → Type 0)
     (otherwise : Type 0) → HasEnds wanted IsMeant otherwise → SaysInside j wanted limits
@@ -33,14 +28,8 @@ pub inside_judges : (j : Judged) (wanted : Wanted) (limits : Option (ℕ × ℕ)
 inside_judges Allowed wanted limits IsMeant otherwise ends says = λ X from to is. let at =
     ends.outer X from to is in says X (at.0) (at.1)
 inside_judges Wrong wanted limits IsMeant otherwise ends says = λ lie.
-    let X = says.0 in
-    let from = says.1 in
-    let to = says.2 in
-    let p = wanted.positive in
-    let o = wanted.low in
-    let h = wanted.high in
-    let m = wanted.high_at_most in
-    says.3 (lie X (omega (arith, p, o, from)) (omega (arith, to, h, m)) (ends.inner X from to))
+    let at = meant_within wanted IsMeant otherwise ends (says.0) (says.1) (says.2) in
+    says.3 (lie (says.0) (at.0) (at.1) (at.2))
 inside_judges Unclear wanted limits IsMeant otherwise ends says = elim says
     [ inl apart ↦ ends.low apart | inr apart ↦ ends.high apart ]
 

@@ -1,31 +1,7 @@
 -- What is judged of values, place by place.
-use Rattle.std.proofs.Common.{
-  ◌≡◌,
-  ℕ,
-  ◌-◌,
-  ◌≤◌,
-  ◌⊎◌,
-  Bool,
-  true,
-  false,
-  List,
-  [],
-  ◌∷◌,
-  length,
-  take,
-  drop,
-  get_or,
-  Any,
-  Option,
-  None,
-  refl,
-  sym,
-  ap,
-  ◌∙◌,
-  inl,
-  inr,
-  arith,
-}
+use Rattle.std.proofs.Common.{◌≡◌, ℕ, ◌-◌, ◌≤◌, ◌⊎◌, Bool, true, false, List, [], ◌∷◌, length}
+use Rattle.std.proofs.Common.{take, drop, get_or, Any, Option, None, refl, sym, ap, ◌∙◌, inl, inr}
+use Rattle.std.proofs.Common.{arith}
 use Rattle.std.specs.Bool.{IsTrue}
 use Rattle.std.specs.List.{AllZip}
 use Rattle.std.proofs.Math.Seq.{take-length}
@@ -63,6 +39,18 @@ split_item xs x is some = split_first xs x some ∙ ap (λ y. y ∷ take (length
 
 module _ (small : Bool) (value : Option SideBounds) (values : List (Option SideBounds))
     (j k : Judged) where
+  -- what both leave open, where the first of two lists is judged apart
+  more_open : (P Q M N : Type 0) → Judges j P ((small ≡ false) × M)
+      → Judges k Q ((small ≡ false) × N) → Judges (both j k) (P × Q) ((small ≡ false) × (M ⊎ N))
+  more_open P Q M N one rest =
+      judges_as (both j k) (P × Q) (P × Q) (((small ≡ false) × M) ⊎ ((small ≡ false) × N)) _
+      (λ h. h) (λ h. h) known
+      (judges_both j k P Q ((small ≡ false) × M) ((small ≡ false) × N) one rest)
+    where
+      known : ((small ≡ false) × M) ⊎ ((small ≡ false) × N) → (small ≡ false) × (M ⊎ N)
+      known (inl near) = (near.0, inl (near.1))
+      known (inr near) = (near.0, inr (near.1))
+
   -- one interval more
   pub one_interval_more : (low high : ℕ) (intervals : List (ℕ × ℕ))
       → ((side : Option Side) → IsSideFor small value side
@@ -76,26 +64,10 @@ module _ (small : Bool) (value : Option SideBounds) (values : List (Option SideB
       ((small ≡ false) × IsSomeIntervalNear (value ∷ values) sides ((low, high) ∷ intervals))
   one_interval_more low high intervals one rest [] are = absurd are
   one_interval_more low high intervals one rest (side ∷ sides) are =
-      judges_as (both j k) (P × Q) _ (((small ≡ false) × M) ⊎ ((small ≡ false) × N)) _ (λ h. h)
-      (λ h. h) known
-      (judges_both j k P Q ((small ≡ false) × M) ((small ≡ false) × N) (one side (are.0))
-      (rest sides (are.1)))
-    where
-      P : Type 0
-      P = IsRightFor (IsTrue small) side (low, high)
-
-      Q : Type 0
-      Q = AllZip (IsRightFor (IsTrue small)) sides intervals
-
-      M : Type 0
-      M = IsOf (λ bounds of_bounds. IsSideNear bounds of_bounds low high) value side
-
-      N : Type 0
-      N = IsSomeIntervalNear values sides intervals
-
-      known : ((small ≡ false) × M) ⊎ ((small ≡ false) × N) → (small ≡ false) × (M ⊎ N)
-      known (inl near) = (near.0, inl (near.1))
-      known (inr near) = (near.0, inr (near.1))
+      more_open (IsRightFor (IsTrue small) side (low, high))
+      (AllZip (IsRightFor (IsTrue small)) sides intervals)
+      (IsOf (λ bounds of_bounds. IsSideNear bounds of_bounds low high) value side)
+      (IsSomeIntervalNear values sides intervals) (one side (are.0)) (rest sides (are.1))
 
   -- one number of units more
   pub one_ratio_more : (X F : ℕ) (Xs Fs : List ℕ)
@@ -110,26 +82,9 @@ module _ (small : Bool) (value : Option SideBounds) (values : List (Option SideB
       × AreSomeUnitsNear small (value ∷ values) sides (X ∷ Xs) (F ∷ Fs))
   one_ratio_more X F Xs Fs one rest [] are = absurd are
   one_ratio_more X F Xs Fs one rest (side ∷ sides) are =
-      judges_as (both j k) (P × Q) _ (((small ≡ false) × M) ⊎ ((small ≡ false) × N)) _ (λ h. h)
-      (λ h. h) known
-      (judges_both j k P Q ((small ≡ false) × M) ((small ≡ false) × N) (one side (are.0))
-      (rest sides (are.1)))
-    where
-      P : Type 0
-      P = IsFairFor (IsTrue small) side X F
-
-      Q : Type 0
-      Q = AreFairUnits (IsTrue small) sides Xs Fs
-
-      M : Type 0
-      M = IsOf (λ bounds of_bounds. AreUnitsNear bounds small of_bounds F X) value side
-
-      N : Type 0
-      N = AreSomeUnitsNear small values sides Xs Fs
-
-      known : ((small ≡ false) × M) ⊎ ((small ≡ false) × N) → (small ≡ false) × (M ⊎ N)
-      known (inl near) = (near.0, inl (near.1))
-      known (inr near) = (near.0, inr (near.1))
+      more_open (IsFairFor (IsTrue small) side X F) (AreFairUnits (IsTrue small) sides Xs Fs)
+      (IsOf (λ bounds of_bounds. AreUnitsNear bounds small of_bounds F X) value side)
+      (AreSomeUnitsNear small values sides Xs Fs) (one side (are.0)) (rest sides (are.1))
 
 -- one value more of which some share may be wanted
 absent_more : (j k : Judged) (small : Bool) (value : Option SideBounds)

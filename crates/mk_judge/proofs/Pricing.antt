@@ -111,22 +111,6 @@ module _ (price : Fraction) (low high : ℕ) (some : 1 ≤ price.num) (less : pr
       let ceiling = h.ceiling tt in
       record { below = omega (arith, h.below); above = above; floor = omega (arith, h.floor tt); ceiling = omega (arith, one, ceiling) }
 
--- the small case is the same as another where both hold or neither does
-pub covers_for : (small other : Type 0) (near : ℕ) (price : Fraction) (low high : ℕ)
-    → (other → small) → CoversPrice small near price low high
-    → CoversPrice other near price low high
-covers_for small other near price low high to h = record {
-  below = h.below;
-  above = h.above;
-  at_most_one = h.at_most_one;
-  low_near = h.low_near;
-  high_near = h.high_near;
-  never = h.never;
-  sure = h.sure;
-  floor = λ o. h.floor (to o);
-  ceiling = λ o. h.ceiling (to o);
-}
-
 -- an interval in order, at most at one
 pub covers_in_order : (small : Type 0) (near : ℕ) (price : Fraction) (low high : ℕ) → 1 ≤ price.den
     → CoversPrice small near price low high → low ≤ high

@@ -1,19 +1,6 @@
 -- Right limits by what is judged of them.
-use Rattle.std.proofs.Common.{
-  ◌≡◌,
-  ℕ,
-  ◌-◌,
-  ◌⊎◌,
-  Option,
-  Some,
-  None,
-  inl,
-  inr,
-  arith,
-  subst,
-  Bool,
-  false,
-}
+use Rattle.std.proofs.Common.{◌≡◌, ℕ, ◌-◌, ◌⊎◌, Option, Some, None, inl, inr, arith, subst}
+use Rattle.std.proofs.Common.{Bool, false}
 use Rattle.std.specs.Bool.{IsTrue}
 use Rattle.std.proofs.lemmas.Bool.{false≢true}
 use Rattle.mk_net.specs.Bounds.{million}

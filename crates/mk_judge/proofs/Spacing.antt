@@ -13,6 +13,7 @@ use Rattle.mk_judge.specs.Limits.{CanBeTraded}
 use Rattle.mk_judge.specs.Wanted.{LieInside, SomeShare, HasEnds}
 use Rattle.mk_judge.specs.inner.Within.{SomeOutside}
 use Rattle.mk_judge.proofs.Exactly.{side_graded}
+use Rattle.mk_judge.proofs.Lying.{meant_within}
 use Rattle.mk_judge.proofs.Righting.{traded_for}
 
 -- the small case is the same as another where both hold or neither does
@@ -51,13 +52,8 @@ pub wanted_within : (wanted : Wanted) (side : Side) (otherwise : Type 0)
     → SomeShare IsWanted side
 wanted_within wanted side otherwise ends outside =
     let X = outside.0 in
-    let from = outside.1 in
-    let to = outside.2 in
-    let p = wanted.positive in
-    let o = wanted.low in
-    let h = wanted.high in
-    let m = wanted.high_at_most in
-    (X, omega (arith, p, o, from), omega (arith, to, h, m), ends.inner X from to)
+    let at = meant_within wanted (IsWanted side) otherwise ends X (outside.1) (outside.2) in
+    (X, at.0, at.1, at.2)
 
 -- ---- in the small case
 

@@ -11,18 +11,18 @@ use crate::product::Product;
 use crate::scale::Scale;
 use crate::wanted::Wanted;
 use mk_enclose::Enclosure;
-use mk_names::limits::MILLION as PARTS;
+use mk_names::limits::MILLION;
 use mk_quote::SideBounds;
 use mk_scaled::Scaled;
 
 /// The parts that make a whole: one more than the greatest share.
-const MILLION: u64 = PARTS as u64;
+const PARTS: u64 = MILLION as u64;
 
 /// What a part is multiplied by in the first inequality of a wanted share.
-const ABOVE_ONE: u64 = MILLION * ((1 << 19) + 1);
+const ABOVE_ONE: u64 = PARTS * ((1 << 19) + 1);
 
 /// What it is multiplied by in the second: a move of the price by `2^22`.
-const NOT_FAR: u64 = MILLION << 22;
+const NOT_FAR: u64 = PARTS << 22;
 
 /// The shares of one side that are wanted, by its bounds. The ends lie apart only where two
 /// numbers are near that decide about some share.
@@ -85,8 +85,8 @@ fn capped(shares: Option<u64>) -> u32
     ensures value { MatchOption shares (result ≡ 1000000) (λ n. result ≡ min n 1000000) }
 {
     match shares {
-        Some(number) => number.min(MILLION) as u32,
-        None => MILLION as u32,
+        Some(number) => number.min(PARTS) as u32,
+        None => PARTS as u32,
     }
 }
 
@@ -98,7 +98,7 @@ fn last_share(part: &Scaled, whole: &Scaled) -> u32
         → (X ≤ result) ↔ (X * whole.now ≤ part.now * (1000000 * 2 ^ 22)) }
 {
     match part.div_floor(NOT_FAR, whole, 1) {
-        Some(share) => share.min(MILLION - 1) as u32,
-        None => (MILLION - 1) as u32,
+        Some(share) => share.min(PARTS - 1) as u32,
+        None => (PARTS - 1) as u32,
     }
 }

@@ -1,5 +1,7 @@
 use Rattle.std.proofs.Common.{refl}
-use Rattle.mk_judge.proofs.Multiplying.{stored_written, product_fits, up_above, up_near, up_few}
+use Rattle.mk_judge.proofs.Multiplying.{IsWritten, stored_written, product_fits, up_above, up_near}
+use Rattle.mk_judge.proofs.Multiplying.{up_few}
+use Rattle.mk_judge.proofs.multiply.product_up.Goals.{After-exponent-2}
 use Rattle.mk_judge.proofs.multiply.product_up.Goals as goal
 
 pub mul_up-number-requires : goal.mul_up-number-requires
@@ -17,24 +19,23 @@ invariant_of-result-clause-few_digits c =
     c.mul_up-number.result (rw (c.of_whole.ensures, c.of_whole-2.ensures) at
     c.mul_up-number.ensures)
 
+-- both factors as they are written
+written : (c : After-exponent-2) → IsWritten c.args.left.now c.mantissa.result c.exponent.result
+    × IsWritten c.args.right.now c.mantissa-2.result c.exponent-2.result
+written c = (
+  stored_written _ _ _ c.mantissa.ensures.stored c.mantissa.ensures.value c.exponent.ensures.value,
+  stored_written _ _ _ c.mantissa-2.ensures.stored c.mantissa-2.ensures.value
+      c.exponent-2.ensures.value,
+)
+
 pub returns-clause-above : goal.returns-clause-above
 returns-clause-above c =
-    up_above c.args.left.now c.mantissa.result c.exponent.result c.args.right.now
-    c.mantissa-2.result c.exponent-2.result
-    (stored_written _ _ _ c.mantissa.ensures.stored c.mantissa.ensures.value
-    c.exponent.ensures.value)
-    (stored_written _ _ _ c.mantissa-2.ensures.stored c.mantissa-2.ensures.value
-    c.exponent-2.ensures.value)
-    c.mul_up-number.result (rw (c.of_whole.ensures, c.of_whole-2.ensures) at
-    c.mul_up-number.ensures)
+    let both = written (goal.at.returns-clause-above c).After-exponent-2 in
+    up_above _ _ _ _ _ _ both.0 both.1 c.mul_up-number.result
+    (rw (c.of_whole.ensures, c.of_whole-2.ensures) at c.mul_up-number.ensures)
 
 pub returns-clause-near : goal.returns-clause-near
 returns-clause-near c =
-    up_near c.args.left.now c.mantissa.result c.exponent.result c.args.right.now c.mantissa-2.result
-    c.exponent-2.result
-    (stored_written _ _ _ c.mantissa.ensures.stored c.mantissa.ensures.value
-    c.exponent.ensures.value)
-    (stored_written _ _ _ c.mantissa-2.ensures.stored c.mantissa-2.ensures.value
-    c.exponent-2.ensures.value)
-    c.mul_up-number.result (rw (c.of_whole.ensures, c.of_whole-2.ensures) at
-    c.mul_up-number.ensures)
+    let both = written (goal.at.returns-clause-near c).After-exponent-2 in
+    up_near _ _ _ _ _ _ both.0 both.1 c.mul_up-number.result
+    (rw (c.of_whole.ensures, c.of_whole-2.ensures) at c.mul_up-number.ensures)
