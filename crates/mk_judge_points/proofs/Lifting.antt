@@ -55,30 +55,32 @@ same_test true P Q P' Q' p q h = p h
 same_test false P Q P' Q' p q h = q h
 
 module _ (a m e bits b n f more : ℕ) (a_is : a ≡ m * 2 ^ e) (b_is : b ≡ n * 2 ^ f) where
-  -- the lesser exponent is taken away from both sides
-  pub right_decides : (test : Bool) → e + bits ≤ f + more → MatchBool test (m ≤ n * 2 ^ (f + more - (e + bits))) (n * 2 ^ (f + more - (e + bits)) < m)
+  -- a power of two is taken away from both sides
+  decides : (test : Bool) (p q k : ℕ) → a * 2 ^ bits ≡ p * 2 ^ k → b * 2 ^ more ≡ q * 2 ^ k
+      → MatchBool test (p ≤ q) (q < p)
       → MatchBool test (a * 2 ^ bits ≤ b * 2 ^ more) (b * 2 ^ more < a * 2 ^ bits)
-  right_decides test order = same_test test _ _ _ _
-      (λ h. rw (left, right) (mul-le-mul_right (2 ^ (e + bits)) h))
-      (λ h. rw (left, right) (mul-lt-mul_of_pos_right h (pow_pos (e + bits))))
-    where
-      left : a * 2 ^ bits ≡ m * 2 ^ (e + bits)
-      left = moved a m e bits (e + bits) a_is refl
+  decides test p q k left right = same_test test _ _ _ _
+      (λ h. rw (left, right) (mul-le-mul_right (2 ^ k) h))
+      (λ h. rw (left, right) (mul-lt-mul_of_pos_right h (pow_pos k)))
 
-      right : b * 2 ^ more ≡ n * 2 ^ (f + more - (e + bits)) * 2 ^ (e + bits)
-      right = moved b n f more (f + more) b_is refl ∙ apart n (e + bits) (f + more) order
+  left : a * 2 ^ bits ≡ m * 2 ^ (e + bits)
+  left = moved a m e bits (e + bits) a_is refl
 
-  pub left_decides : (test : Bool) → f + more ≤ e + bits → MatchBool test (m * 2 ^ (e + bits - (f + more)) ≤ n) (n < m * 2 ^ (e + bits - (f + more)))
+  right : b * 2 ^ more ≡ n * 2 ^ (f + more)
+  right = moved b n f more (f + more) b_is refl
+
+  -- the lesser exponent is taken away
+  pub right_decides : (test : Bool) → e + bits ≤ f + more
+      → MatchBool test (m ≤ n * 2 ^ (f + more - (e + bits))) (n * 2 ^ (f + more - (e + bits)) < m)
       → MatchBool test (a * 2 ^ bits ≤ b * 2 ^ more) (b * 2 ^ more < a * 2 ^ bits)
-  left_decides test order = same_test test _ _ _ _
-      (λ h. rw (left, right) (mul-le-mul_right (2 ^ (f + more)) h))
-      (λ h. rw (left, right) (mul-lt-mul_of_pos_right h (pow_pos (f + more))))
-    where
-      right : b * 2 ^ more ≡ n * 2 ^ (f + more)
-      right = moved b n f more (f + more) b_is refl
+  right_decides test order = decides test m _ (e + bits) left
+      (right ∙ apart n (e + bits) (f + more) order)
 
-      left : a * 2 ^ bits ≡ m * 2 ^ (e + bits - (f + more)) * 2 ^ (f + more)
-      left = moved a m e bits (e + bits) a_is refl ∙ apart m (f + more) (e + bits) order
+  pub left_decides : (test : Bool) → f + more ≤ e + bits
+      → MatchBool test (m * 2 ^ (e + bits - (f + more)) ≤ n) (n < m * 2 ^ (e + bits - (f + more)))
+      → MatchBool test (a * 2 ^ bits ≤ b * 2 ^ more) (b * 2 ^ more < a * 2 ^ bits)
+  left_decides test order = decides test _ n (f + more) (left ∙ apart m (f + more) (e + bits) order)
+      right
 
 -- where both enclosures are exact, the ends do not disagree
 pub ends_agree : (x y lo hi lo' hi' : ℕ) → lo ≡ hi → lo' ≡ hi' → lo' * y < hi * x → lo * x ≤ hi' * y → ⊥

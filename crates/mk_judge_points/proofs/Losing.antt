@@ -8,7 +8,13 @@ use Rattle.mk_exact.specs.Cash.{IsCash}
 use Rattle.mk_exact.specs.Risk.{nearness, CoversBound}
 use Rattle.mk_exact.proofs.ExistNumbers.{cash_exists, power_less}
 use Rattle.mk_cash.proofs.Losses.{millions_above}
-use Rattle.mk_judge_points.specs.Losses.{quotient}
+use Rattle.mk_enclose.specs.declared.enclosure.Enclosure.{Enclosure}
+use Rattle.mk_enclose.specs.Enclosure.{Encloses, HasGrade}
+use Rattle.mk_judge.specs.declared.judged.Judged.{Judged}
+use Rattle.mk_judge.specs.Judged.{Judges}
+use Rattle.mk_judge.proofs.Judging.{judges_as}
+use Rattle.mk_judge_points.specs.Cash.{ArePowersNear}
+use Rattle.mk_judge_points.specs.Losses.{quotient, IsBoundNear}
 use Rattle.mk_judge_points.specs.inner.Ends.{AreCashEnds}
 
 module _ (total least b low high : ℕ) where
@@ -31,6 +37,21 @@ module _ (total least b low high : ℕ) where
         low_near = h.low_near;
         high_near = h.high_near;
       }
+
+-- what is judged of the ends is judged of the bound
+pub bound_judged : (j : Judged) (least total : Enclosure) (v m b low high parts : ℕ)
+    → nearness (million ^ v) ≡ 2 ^ parts → Encloses least m → m ≤ million ^ v
+    → HasGrade total (4 * v)
+    → Judges j (AreCashEnds (2 ^ parts) (quotient (million ^ v) m) b low high)
+    ((g h : ℕ) → HasGrade least g → HasGrade total h
+    → ArePowersNear (2 ^ parts) (quotient (million ^ v) m) b low high (b * (g + h + 9)))
+    → Judges j (CoversBound (million ^ v) m b low high) (IsBoundNear least v m b low high)
+bound_judged j least total v m b low high parts near holds part grade ends =
+    let some = le_trans least.positive holds.lower in
+    judges_as j _ _ _ _
+    (λ h. ends_bound (million ^ v) m b low high some part (rw near h))
+    (λ h. rw (← near) (bound_ends (million ^ v) m b low high h))
+    (λ h. λ g graded. rw near (h g (4 * v) graded grade)) ends
 
 -- the part is that of the number of variables
 pub few_near : (v : ℕ) → v ≤ 3 → nearness (million ^ v) ≡ 2 ^ 58

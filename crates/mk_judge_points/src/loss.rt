@@ -1,5 +1,6 @@
 //! Judgements of the printed bound on the operator's loss.
 ghost use Rattle.std.specs.Prelude.{◌≡◌, ℕ, ◌+◌, ◌*◌, ◌^◌, ◌<◌, ◌≤◌};
+ghost use Rattle.mk_exact.specs.Risk.{nearness};
 ghost use Rattle.mk_judge_points.specs.Below.{max_variables, max_points_per_bit, number_limit};
 ghost use Rattle.mk_judge_points.specs.Below.{million, CoversBound, two_to, upper_of, Encloses};
 ghost use Rattle.mk_judge_points.specs.Below.{HasGrade, IsGradedWithin, Judges};
@@ -40,11 +41,23 @@ pub fn judge_bound(
         → IsBoundNear least.now variables m points_per_bit low high }
 {
     let total = total_of(variables);
-    if variables <= 3 {
-        compare_ends(least, &total, 58, points_per_bit, low, high)
-    } else {
-        compare_ends(least, &total, 42, points_per_bit, low, high)
-    }
+    compare_ends(
+        least,
+        &total,
+        parts_of(variables),
+        points_per_bit,
+        low,
+        high,
+    )
+}
+
+/// The ends may be off by less than one part in two to this power.
+fn parts_of(variables: u32) -> u32
+    ensures near { nearness (million ^ variables) ≡ 2 ^ result }
+    ensures some { 1 ≤ result }
+    ensures few { result ≤ 59 }
+{
+    if variables <= 3 { 58 } else { 42 }
 }
 
 /// The initial weights of all states together: a million for each variable.
