@@ -11,23 +11,14 @@ use Rattle.mk_exact.specs.Limits.{Side, IsFairAndSolvent, AreRight}
 use Rattle.mk_exact.specs.Sides.{AreSides, AreRightLimits, IsFairPair}
 use Rattle.mk_quote.specs.declared.bounds.Bounds.{Bounds}
 use Rattle.mk_quote.specs.Bounds.{AreFairAndSolvent, AreRightFor, AreAllExact}
+use Rattle.mk_exact.proofs.ExistNumbers.{covers_for}
 use Rattle.mk_answers.specs.Open.{AreBoundsFor}
 
 module _ (small exact : Type 0) (then : small → exact) where
   pub covers_when : (near : ℕ) (price : Fraction) (low high : ℕ)
       → CoversPrice exact near price low high
       → CoversPrice small near price low high
-  covers_when near price low high covers = record {
-    below = covers.below;
-    above = covers.above;
-    at_most_one = covers.at_most_one;
-    low_near = covers.low_near;
-    high_near = covers.high_near;
-    never = covers.never;
-    sure = covers.sure;
-    floor = λ s. covers.floor (then s);
-    ceiling = λ s. covers.ceiling (then s);
-  }
+  covers_when near price low high = covers_for exact small near price low high then
 
   fair_when : (F X : ℕ) (price : Fraction) → IsFair exact F X price → IsFair small F X price
   fair_when F X price fair = record {

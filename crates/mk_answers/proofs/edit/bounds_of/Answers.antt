@@ -20,7 +20,9 @@ use Rattle.mk_answers.proofs.Bounding.{can_ask_weights}
 use Rattle.mk_answers.proofs.Coming.{hit_present, miss_present, both_come, neither_comes, target_never, target_sure}
 use Rattle.mk_answers.proofs.Counted.{side_bounded}
 use Rattle.mk_answers.proofs.Regraded.{graded_within, within_more, held_grade, side_regraded}
+use Rattle.mk_answers.proofs.edit.bounds_of.Given.{Over}
 use Rattle.mk_answers.proofs.edit.bounds_of.Goals as goal
+use Rattle.mk_answers.proofs.edit.bounds_of.Goals.{After-belief_of_others-miss}
 
 -- the values of the target that was asked for are those of the question's variable
 sized_as : (network : List Variable) (asked : Asked) (target : Pair) (values : ℕ) → target ≡ asked.target → values ≡ slice_index (sizes network) target.variable
@@ -43,6 +45,18 @@ found_in network tree H is_open asked answered target event part rest values is 
     sides_in network tree H is_open asked event part rest values its_pairs
     answered.in_order.in_range own on_part (on_rest own)
 
+-- what both beliefs that were found are in
+sides_at : (g : Over) (c : After-belief_of_others-miss g) (tree : GivenTree) (H : List Entry)
+    → g.P.Engine.stands_for c.args.prices.now (weights_of c.args.net.now tree H)
+    → IsOpen c.args.net.now tree H → CanBeAnswered c.args.net.now tree H c.args.asked.now
+    → AreSidesIn c.args.net.now H c.args.asked.now c.belief-hit.result c.belief_of_others-miss.result
+sides_at g c tree H stands is_open answered =
+    let network = c.args.net.now in let m = weights_of network tree H in
+    found_in network tree H is_open c.args.asked.now answered c.target.result c.event.result
+    c.belief-hit.result c.belief_of_others-miss.result c.values-values.result c.target.ensures
+    c.event.ensures.pairs c.values-values.ensures (c.belief-hit.ensures.belief m stands)
+    (c.belief_of_others-miss.ensures.belief m (c.belief-hit.ensures.kept m stands))
+
 pub belief_of_others-miss-requires : goal.belief_of_others-miss-requires
 belief_of_others-miss-requires g c =
     let a = c.requires in let network = c.args.net.now in let asked = c.args.asked.now in let m = weights_of network a.tree a.history in
@@ -53,13 +67,10 @@ belief_of_others-miss-requires g c =
 
 pub open_bounds-requires : goal.open_bounds-requires
 open_bounds-requires g c =
-    let a = c.requires in let network = c.args.net.now in let asked = c.args.asked.now in let m = weights_of network a.tree a.history in
+    let a = c.requires in let network = c.args.net.now in let asked = c.args.asked.now in
     let sized = sized_as network asked c.target.result c.values-values.result c.target.ensures c.values-values.ensures in
-    let sides = found_in network a.tree a.history a.is_open asked a.answered c.target.result
-    c.event.result c.belief-hit.result c.belief_of_others-miss.result c.values-values.result
-    c.target.ensures c.event.ensures.pairs c.values-values.ensures
-    (c.belief-hit.ensures.belief m a.stands)
-    (c.belief_of_others-miss.ensures.belief m (c.belief-hit.ensures.kept m a.stands)) in
+    let sides = sides_at g (goal.at.open_bounds-requires g c).After-belief_of_others-miss
+    a.tree a.history a.stands a.is_open a.answered in
     record {
       network = network;
       tree = a.tree;
@@ -81,13 +92,10 @@ returns-in-Present-Present-clause-kept g c = λ m stands. c.belief_of_others-mis
 
 pub returns-in-Present-Present-clause-sides : goal.returns-in-Present-Present-clause-sides
 returns-in-Present-Present-clause-sides g c = λ tree H u stands owns is_open answered.
-    let network = c.args.net.now in let asked = c.args.asked.now in let m = weights_of network tree H in
+    let network = c.args.net.now in let asked = c.args.asked.now in
     let sized = sized_as network asked c.target.result c.values-values.result c.target.ensures c.values-values.ensures in
-    let sides = found_in network tree H is_open asked answered c.target.result c.event.result
-    c.belief-hit.result c.belief_of_others-miss.result c.values-values.result
-    c.target.ensures c.event.ensures.pairs c.values-values.ensures
-    (c.belief-hit.ensures.belief m stands)
-    (c.belief_of_others-miss.ensures.belief m (c.belief-hit.ensures.kept m stands)) in
+    let sides = sides_at g (goal.at.returns-in-Present-Present-clause-sides g c).After-belief_of_others-miss
+    tree H stands is_open answered in
     let hit = c.in-Present-Present.hit in let miss = c.in-Present-Present.miss in (
       both_come network H asked c.belief-hit.result c.belief_of_others-miss.result sides hit miss c.in-Present-Present.is-0 c.in-Present-Present.is-1,
       λ on_hit on_miss both. c.open_bounds.ensures.bounds network tree H u on_hit on_miss owns is_open answered sized
@@ -102,10 +110,8 @@ returns-in-Present-Present-clause-bounded g c = λ tree H u most stands owns is_
     let m = weights_of network tree H in
     let sized = sized_as network asked c.target.result c.values-values.result c.target.ensures
     c.values-values.ensures in
-    let sides = found_in network tree H is_open asked answered c.target.result c.event.result
-    c.belief-hit.result c.belief_of_others-miss.result c.values-values.result c.target.ensures
-    c.event.ensures.pairs c.values-values.ensures (c.belief-hit.ensures.belief m stands)
-    (c.belief_of_others-miss.ensures.belief m (c.belief-hit.ensures.kept m stands)) in
+    let sides = sides_at g (goal.at.returns-in-Present-Present-clause-bounded g c).After-belief_of_others-miss
+    tree H stands is_open answered in
     let hit = hit_present network H asked c.belief-hit.result c.belief_of_others-miss.result sides
     c.in-Present-Present.hit c.in-Present-Present.is-0 in
     let miss = miss_present network H asked c.belief-hit.result c.belief_of_others-miss.result sides
@@ -150,32 +156,18 @@ returns-in-Present-Present-clause-bounded g c = λ tree H u most stands owns is_
 
 pub returns-in-Present-Absent-clause-sides : goal.returns-in-Present-Absent-clause-sides
 returns-in-Present-Absent-clause-sides g c = λ tree H u stands owns is_open answered.
-    let network = c.args.net.now in let asked = c.args.asked.now in let m = weights_of network tree H in
-    let sides = found_in network tree H is_open asked answered c.target.result c.event.result
-    c.belief-hit.result c.belief_of_others-miss.result c.values-values.result
-    c.target.ensures c.event.ensures.pairs c.values-values.ensures
-    (c.belief-hit.ensures.belief m stands)
-    (c.belief_of_others-miss.ensures.belief m (c.belief-hit.ensures.kept m stands)) in
-    target_sure network H asked c.belief-hit.result c.belief_of_others-miss.result sides is_open.legal is_open.proper c.in-Present-Absent.field-0-0
-    c.in-Present-Absent.is-0 c.in-Present-Absent.is-1
+    let at = goal.at.returns-in-Present-Absent-clause-sides g c in let both = c.in-Present-Absent in
+    target_sure _ H _ _ _ (sides_at g at.After-belief_of_others-miss tree H stands is_open answered)
+    is_open.legal is_open.proper both.field-0-0 both.is-0 both.is-1
 
 pub returns-in-Absent-Absent-clause-sides : goal.returns-in-Absent-Absent-clause-sides
 returns-in-Absent-Absent-clause-sides g c = λ tree H u stands owns is_open answered.
-    let network = c.args.net.now in let asked = c.args.asked.now in let m = weights_of network tree H in
-    let sides = found_in network tree H is_open asked answered c.target.result c.event.result
-    c.belief-hit.result c.belief_of_others-miss.result c.values-values.result
-    c.target.ensures c.event.ensures.pairs c.values-values.ensures
-    (c.belief-hit.ensures.belief m stands)
-    (c.belief_of_others-miss.ensures.belief m (c.belief-hit.ensures.kept m stands)) in
-    neither_comes network H asked c.belief-hit.result c.belief_of_others-miss.result sides is_open.legal is_open.proper c.in-Absent-Absent.is-0 c.in-Absent-Absent.is-1
+    let at = goal.at.returns-in-Absent-Absent-clause-sides g c in let both = c.in-Absent-Absent in
+    neither_comes _ H _ _ _ (sides_at g at.After-belief_of_others-miss tree H stands is_open answered)
+    is_open.legal is_open.proper both.is-0 both.is-1
 
 pub returns-in-Absent-Present-clause-sides : goal.returns-in-Absent-Present-clause-sides
 returns-in-Absent-Present-clause-sides g c = λ tree H u stands owns is_open answered.
-    let network = c.args.net.now in let asked = c.args.asked.now in let m = weights_of network tree H in
-    let sides = found_in network tree H is_open asked answered c.target.result c.event.result
-    c.belief-hit.result c.belief_of_others-miss.result c.values-values.result
-    c.target.ensures c.event.ensures.pairs c.values-values.ensures
-    (c.belief-hit.ensures.belief m stands)
-    (c.belief_of_others-miss.ensures.belief m (c.belief-hit.ensures.kept m stands)) in
-    target_never network H asked c.belief-hit.result c.belief_of_others-miss.result sides is_open.legal is_open.proper c.in-Absent-Present.field-0-1
-    c.in-Absent-Present.is-0 c.in-Absent-Present.is-1
+    let at = goal.at.returns-in-Absent-Present-clause-sides g c in let both = c.in-Absent-Present in
+    target_never _ H _ _ _ (sides_at g at.After-belief_of_others-miss tree H stands is_open answered)
+    is_open.legal is_open.proper both.field-0-1 both.is-0 both.is-1

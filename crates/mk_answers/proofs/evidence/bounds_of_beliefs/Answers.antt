@@ -1,4 +1,4 @@
-use Rattle.std.proofs.Common.{◌≡◌, ℕ, ◌+◌, max, arith}
+use Rattle.std.proofs.Common.{◌+◌, max, arith}
 use Rattle.mk_exact.specs.Weight.{IsSmall}
 use Rattle.mk_answers.proofs.Presence.{some_weight}
 use Rattle.mk_answers.proofs.Bounding.{at_value, sum_fits, sum_is_whole}

@@ -1,4 +1,4 @@
-use Rattle.std.proofs.Common.{◌≡◌, ℕ, ◌-◌}
+use Rattle.std.proofs.Common.{◌-◌}
 use Rattle.mk_net.specs.Bounds.{grade_room}
 use Rattle.mk_exact.specs.Weight.{IsSmall}
 use Rattle.mk_answers.proofs.Presence.{some_weight}
