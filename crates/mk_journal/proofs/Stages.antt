@@ -1,6 +1,7 @@
 -- The two steps of an append, on the file's bytes.
-use Rattle.std.proofs.Common.{◌≡◌, ℕ, ◌+◌, List, [], ◌∷◌, ◌++◌, length, get_or, drop, Option, Result, Ok, Err, OnOk, sym, ◌∙◌, subst}
+use Rattle.std.proofs.Common.{◌≡◌, ℕ, ◌+◌, ◌<◌, arith, Some, None, IfSome, option_map, List, [], ◌∷◌, ◌++◌, length, get_or, drop, Option, Result, Ok, Err, OnOk, sym, ◌∙◌, subst}
 use Rattle.mk_disk.specs.Disk.{Torn, overwritten}
+use Rattle.mk_disk.specs.inner.MemoryLaws.{length-overwritten}
 use Rattle.mk_journal.specs.Store.{AreRecords, opened, IsStarted, chained, before_gate, IsWithOrWithout}
 use Rattle.mk_journal.specs.Kept.{IsKept, IsSettled, IsStaged}
 use Rattle.mk_journal.proofs.Writes.{torn_behind, torn_at, written_behind, written_at}
@@ -9,6 +10,13 @@ use Rattle.mk_journal.proofs.Spelling.{length-before_gate, next_place, started_s
 pub ok_map : {T E P Q : Type 0} (r : Result T E) → (P → Q) → OnOk r P → OnOk r Q
 ok_map (Ok value) f p = f p
 ok_map (Err error) f p = tt
+
+-- the file is longer than a write behind the byte at the gate
+pub reached : (o : Option (List ℕ)) (gate : ℕ) (body : List ℕ) → IfSome o (λ f. gate < length f)
+    → IfSome (option_map (overwritten (gate + 1) body) o) (λ f. gate + length body < length f)
+reached (Some f) gate body long = omega
+    (arith, long, length-overwritten (gate + 1) body f (omega (arith, long)))
+reached None gate body long = tt
 
 at_gate : (market : List ℕ) (records : List (List ℕ)) (gate : ℕ) → gate ≡ length market + 17 + length (opened records) → length (before_gate market records) ≡ gate
 at_gate market records gate place = length-before_gate market records ∙ sym place

@@ -26,27 +26,8 @@ pub(crate) fn write_synced<K: Disk>(disk: &mut K, at: u64, bytes: &[u8]) -> Resu
     disk.sync()
 }
 
-/// The first step of an append: its bytes are written behind the closed gate, and end with the next closed one.
-pub(crate) fn write_record<K: Disk>(disk: &mut K, gate: u64, body: &[u8]) -> Result<(), DiskFailed>
-    requires is_open { IsTrue (K.is_open disk.old) }
-    requires place { IfSome (K.file disk.old (K.open_name disk.old)) (λ f. gate < length f) }
-    requires bound { gate < 2 ^ 63 }
-    requires some { 0 < length body.now }
-    ensures cause { HasCause (K.faults disk.old) (K.faults disk.new) result }
-    ensures stays { K.is_open disk.new ≡ K.is_open disk.old }
-    ensures stays_name { K.open_name disk.new ≡ K.open_name disk.old }
-    ensures place { OnOk result (IfSome (K.file disk.new (K.open_name disk.old)) (λ f. gate + length body.now < length f)) }
-    ensures staged { (n market : List ℕ) (records : List (List ℕ)) → n ≡ K.open_name disk.old
-        → IsSettled (K.file disk.old n) (K.may_leave disk.old n) market records gate
-        → OnOk result (IsStaged (K.file disk.new n) (K.may_leave disk.new n) market records gate body.now) }
-    ensures any_moment { (n market : List ℕ) (records : List (List ℕ)) → n ≡ K.open_name disk.old
-        → IsSettled (K.file disk.old n) (K.may_leave disk.old n) market records gate
-        → LeavesOnly (K.moment disk.old) (K.moment disk.new) (K.left_since disk.old n) (K.left_since disk.new n) (IsStarted market records) }
-{
-    write_synced(disk, gate + 1, body)
-}
-
-/// The second step of an append: the gate before the group is opened, in a write of its own.
+/// The second step of an append: the gate before the group, which was written first, is opened in a
+/// write of its own.
 pub(crate) fn open_gate<K: Disk>(disk: &mut K, gate: u64) -> Result<(), DiskFailed>
     requires is_open { IsTrue (K.is_open disk.old) }
     requires place { IfSome (K.file disk.old (K.open_name disk.old)) (λ f. gate < length f) }
@@ -84,6 +65,6 @@ pub fn append<K: Disk>(disk: &mut K, gate: u64, body: &[u8]) -> Result<(), DiskF
         → IsSettled (K.file disk.old n) (K.may_leave disk.old n) market records gate
         → LeavesOnly (K.moment disk.old) (K.moment disk.new) (K.left_since disk.old n) (K.left_since disk.new n) (IsWithOrWithout market records (r ∷ group)) }
 {
-    write_record(disk, gate, body)?;
+    write_synced(disk, gate + 1, body)?;
     open_gate(disk, gate)
 }

@@ -1,6 +1,7 @@
 -- Questions in words: the pairs of a condition that are gathered, and the variable that is repeated first.
 use Rattle.std.proofs.Common.{◌≡◌, ℕ, suc, zero, ◌+◌, ◌<◌, ◌≤◌, Bool, true, false, cond, ◌||◌, List, [], ◌∷◌, ◌++◌, length, length-append, take, drop, slice_index_or, Option, Some, None, IfSome, IfNone, is_none, refl, sym, ap, ap₂, subst, ◌∙◌, arith}
 use Rattle.std.specs.Prelude.{◌==◌, find, option_map}
+use Rattle.std.proofs.Math.Bool.{or_assoc, or_comm}
 use Rattle.std.specs.List.{list_any, cons_option}
 use Rattle.std.proofs.lemmas.Bool.{eqb-true, eq-eqb}
 use Rattle.mk_net.specs.declared.words.Pair.{Pair}
@@ -149,12 +150,7 @@ module _ (network : List Variable) where
       ∙ ap (λ (b : Bool). (z.variable == x) || b) (sym (speaks_more condition y z.variable))
     where
       swap : (a b c : Bool) → (a || (b || c)) ≡ (b || (c || a))
-      swap true true c = refl
-      swap true false true = refl
-      swap true false false = refl
-      swap false true c = refl
-      swap false false true = refl
-      swap false false false = refl
+      swap a b c = or_comm a (b || c) ∙ or_assoc b c a
 
   -- a pair whose variable stands already is repeated first, unless the target's was
   repeated_now : (pairs : List PairText) (k : ℕ) (d : PairText) (y : Pair) (condition : List Pair) (t : List ℕ) (x : ℕ) → k < length pairs

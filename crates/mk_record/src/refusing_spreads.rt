@@ -155,10 +155,7 @@ fn event_of(asked: &SpreadQuestion) -> Event
         variable: asked.variable,
         value: 0,
     };
-    match asked.condition.with(first) {
-        Some(event) => event,
-        None => asked.condition,
-    }
+    asked.condition.with(first).unwrap_or(asked.condition)
 }
 
 /// There is to be one share for each value, each of 1 to 999,999, or of nothing where the market has shares of nothing, and a

@@ -156,6 +156,13 @@ module _ (market : Market) (H : List Entry) where
         leb-false market.max_transfers (count_by is_transfer H) (not_faulted _ _ room),
       )
 
+  next_in_place : (e : Entry) → IsInRange market.network H e
+      → IfSome (trade_in e) (IsInClique market.cliques)
+      → (IsMarket market → IsMarket (with_entry e market)) → MayFollow market H e
+      → MayBeNext market H e
+  next_in_place e in_range narrow legal follows =
+      record { in_range = in_range; narrow = narrow; legal = legal; follows = follows }
+
   edit_follows : (u : List ℕ) (q : QuestionText) (X : ℕ) (seen : Option ℕ) (hit miss at : ℕ)
       → IsRatio hit → IsRatio miss
       → IsUnrefused (Edit u q X seen) → Follows (Edit u q X seen) (Traded hit miss at)
@@ -254,21 +261,13 @@ module _ (market : Market) (H : List Entry) where
   fit_follows (Deposit u bits) reply legal proper bounded joins units none e =
       let refused = none_applies (refusals_again market H (Deposit u bits)) none in
       reply_appends (MayBeNext market H) market H (Deposit u bits) reply _ e
-      (record {
-        in_range = tt;
-        narrow = tt;
-        legal = λ is_market. is_market;
-        follows = transfer_of u bits refused.1.0 refused.1.1.0 refused.1.1.1.0;
-      })
+      (next_in_place (Deposits (user_number H u) bits) tt tt (λ is_market. is_market)
+      (transfer_of u bits refused.1.0 refused.1.1.0 refused.1.1.1.0))
   fit_follows (Withdraw u bits) reply legal proper bounded joins units none e =
       let refused = none_applies (refusals_again market H (Withdraw u bits)) none in
       reply_appends (MayBeNext market H) market H (Withdraw u bits) reply _ e
-      (record {
-        in_range = tt;
-        narrow = tt;
-        legal = λ is_market. is_market;
-        follows = transfer_of u bits refused.1.0 refused.1.1.0 refused.1.1.1.0;
-      })
+      (next_in_place (Withdraws (user_number H u) bits) tt tt (λ is_market. is_market)
+      (transfer_of u bits refused.1.0 refused.1.1.0 refused.1.1.1.0))
   fit_follows (Price q) reply legal proper bounded joins units none h = absurd h
   fit_follows (Limits u q) reply legal proper bounded joins units none h = absurd h
   fit_follows (Edit u q X seen) reply legal proper bounded joins units none trade =

@@ -48,56 +48,30 @@ front_is_none (Some fault ∷ first) second h = cc
 none_again : (market : Market) (H : List Entry) (command : Command)
     → first_refusal market H command ≡ None
     → first_of (refusals_again market H command) ≡ None
-none_again market H command h = at command h
+none_again market H command none =
+    at command (front_is_none (refusals_by_record market H command)
+    (refusals_by_states market H command) none) none
   where
-    at : (command : Command) → first_refusal market H command ≡ None
+    at : (command : Command) → first_of (refusals_by_record market H command) ≡ None
+        → first_refusal market H command ≡ None
         → first_of (refusals_again market H command) ≡ None
-    at (User u) h =
-        front_is_none (refusals_by_record market H (User u))
-        (refusals_by_states market H (User u)) h
-    at (Deposit u bits) h =
-        front_is_none (refusals_by_record market H (Deposit u bits))
-        (refusals_by_states market H (Deposit u bits)) h
-    at (Withdraw u bits) h =
-        front_is_none (refusals_by_record market H (Withdraw u bits))
-        (refusals_by_states market H (Withdraw u bits)) h
-    at (Price q) h =
-        front_is_none (refusals_by_record market H (Price q))
-        (refusals_by_states market H (Price q)) h
-    at (Limits u q) h =
-        front_is_none (refusals_by_record market H (Limits u q))
-        (refusals_by_states market H (Limits u q)) h
-    at (Edit u q X seen) h =
-        front_is_none (refusals_by_record market H (Edit u q X seen))
-        (refusals_by_states market H (Edit u q X seen)) h
-    at (Bounds u v condition) h =
-        front_is_none (refusals_by_record market H (Bounds u v condition))
-        (refusals_by_states market H (Bounds u v condition)) h
-    at (Spread u v condition to seen) h =
-        front_is_none (refusals_by_record market H (Spread u v condition to seen))
-        (refusals_by_states market H (Spread u v condition to seen)) h
-    at (Worst u) h =
-        front_is_none (refusals_by_record market H (Worst u))
-        (refusals_by_states market H (Worst u)) h
-    at (Resolve p) h = h
-    at (Paid u) h =
-        front_is_none (refusals_by_record market H (Paid u))
-        (refusals_by_states market H (Paid u)) h
-    at Settle h =
-        front_is_none (refusals_by_record market H Settle) (refusals_by_states market H Settle) h
-    at Bound h =
-        front_is_none (refusals_by_record market H Bound) (refusals_by_states market H Bound) h
-    at (Prices v condition) h =
-        front_is_none (refusals_by_record market H (Prices v condition))
-        (refusals_by_states market H (Prices v condition)) h
-    at (Position u v condition) h =
-        front_is_none (refusals_by_record market H (Position u v condition))
-        (refusals_by_states market H (Position u v condition)) h
-    at Status h =
-        front_is_none (refusals_by_record market H Status) (refusals_by_states market H Status) h
-    at (Add add) h =
-        front_is_none (refusals_by_record market H (Add add))
-        (refusals_by_states market H (Add add)) h
+    at (User u) front none = front
+    at (Deposit u bits) front none = front
+    at (Withdraw u bits) front none = front
+    at (Price q) front none = front
+    at (Limits u q) front none = front
+    at (Edit u q X seen) front none = front
+    at (Bounds u v condition) front none = front
+    at (Spread u v condition to seen) front none = front
+    at (Worst u) front none = front
+    at (Resolve p) front none = none
+    at (Paid u) front none = front
+    at Settle front none = front
+    at Bound front none = front
+    at (Prices v condition) front none = front
+    at (Position u v condition) front none = front
+    at Status front none = front
+    at (Add add) front none = front
 
 -- fair units are as many as the shares
 as_many : (small : Type 0) (sides : List (Option Side)) (Xs Fs : List ℕ)
