@@ -43,6 +43,13 @@ paid_opened [] (suc u) = refl
 paid_opened (a ∷ accounts) zero = refl
 paid_opened (a ∷ accounts) (suc u) = paid_opened accounts u
 
+-- an account with more points paid in, or taken out
+abbrev pub with_deposited : Account → ℕ → Account
+with_deposited before points = record before { deposited = before.deposited + points }
+
+abbrev pub with_withdrawn : Account → ℕ → Account
+with_withdrawn before points = record before { withdrawn = before.withdrawn + points }
+
 -- what some payments pay a user
 abbrev paid_in : ℕ → List (ℕ × ℕ) → ℕ × ℕ
 paid_in u payments = or_nothing (slice_get payments u)
@@ -76,16 +83,32 @@ module _ (market : Market) (H : List Entry) (unsettled : is_settled H ≡ false)
         high ∙ old.paid_to.1 ∙ ap (λ (p : ℕ × ℕ). p.1) still,
       )
 
+  -- an account to which the points of the user's bits are added
+  account_moved : (e : Entry) (u : ℕ) (a b : Account) → is_settlement e ≡ false
+      → IsAccount market H u a → b.paid ≡ a.paid → b.high ≡ a.high
+      → (ins outs : ℕ) → bits_in u e ≡ ins → bits_out u e ≡ outs
+      → b.deposited ≡ a.deposited + market.points_per_bit * ins
+      → b.withdrawn ≡ a.withdrawn + market.points_per_bit * outs
+      → IsAccount market (H ++ e ∷ []) u b
+  account_moved e u a b other old low high ins outs ins_are outs_are paid taken =
+      let d : deposited (H ++ e ∷ []) u ≡ deposited H u + ins
+      = deposited_more H e u ∙ ap (λ (n : ℕ). deposited H u + n) ins_are in
+      let w : withdrawn (H ++ e ∷ []) u ≡ withdrawn H u + outs
+      = withdrawn_more H e u ∙ ap (λ (n : ℕ). withdrawn H u + n) outs_are in
+      record {
+        paid_in = rw (paid, d, old.paid_in) (omega arith);
+        taken_out = rw (taken, w, old.taken_out) (omega arith);
+        paid_to = paid_still e u a b other old low high;
+      }
+
+  no_points : (points : ℕ) → points ≡ points + market.points_per_bit * 0
+  no_points points = omega arith
+
   -- an entry that moves none of the user's bits
   account_kept : (e : Entry) (u : ℕ) (a : Account) → is_settlement e ≡ false → bits_in u e ≡ 0 → bits_out u e ≡ 0 → IsAccount market H u a → IsAccount market (H ++ e ∷ []) u a
   account_kept e u a other ins outs old =
-      let d : deposited H u ≡ deposited (H ++ e ∷ []) u = omega (arith, ins, deposited_more H e u) in
-      let w : withdrawn H u ≡ withdrawn (H ++ e ∷ []) u = omega (arith, outs, withdrawn_more H e u) in
-      record {
-        paid_in = old.paid_in ∙ ap (λ (n : ℕ). market.points_per_bit * n) d;
-        taken_out = old.taken_out ∙ ap (λ (n : ℕ). market.points_per_bit * n) w;
-        paid_to = paid_still e u a a other old refl refl;
-      }
+      account_moved e u a a other old refl refl 0 0 ins outs (no_points a.deposited)
+      (no_points a.withdrawn)
 
   -- one account changes, and the entry moves nobody else's bits
   pub accounts_set : (e : Entry) (accounts : List Account) (user : ℕ) (new : Account) → is_settlement e ≡ false → join_in e ≡ None → user < length (users H)
@@ -112,57 +135,32 @@ module _ (market : Market) (H : List Entry) (unsettled : is_settled H ≡ false)
 
   -- bits are paid in
   pub accounts_deposited : (accounts : List Account) (user bits points : ℕ) → user < length (users H) → points ≡ market.points_per_bit * bits → AreAccounts market H accounts
-      → AreAccounts market (H ++ Deposit user bits ∷ []) (slice_set accounts user (let before = account_of accounts user in record before { deposited = before.deposited + points }))
+      → AreAccounts market (H ++ Deposit user bits ∷ [])
+      (slice_set accounts user (with_deposited (account_of accounts user) points))
   accounts_deposited accounts user bits points within worth old =
-      accounts_set (Deposit user bits) accounts user (let before = account_of accounts user in record before { deposited = before.deposited + points }) refl refl within
-      (λ u other. (rw (ne_eqb user u (λ same. other (sym same))) refl, refl)) own old
-    where
-      account : IsAccount market H user (account_of accounts user)
-      account = old.each user (omega (arith, within, old.one_each))
-
-      ins : bits_in user (Deposit user bits) ≡ bits
-      ins = rw (eq-eqb user user refl) refl
-
-      deposits : deposited (H ++ Deposit user bits ∷ []) user ≡ deposited H user + bits
-      deposits = deposited_more H (Deposit user bits) user ∙ ap (λ (n : ℕ). deposited H user + n) ins
-
-      withdrawals : withdrawn H user ≡ withdrawn (H ++ Deposit user bits ∷ []) user
-      withdrawals = omega (arith, withdrawn_more H (Deposit user bits) user)
-
-      own : IsAccount market (H ++ Deposit user bits ∷ []) user (let before = account_of accounts user in record before { deposited = before.deposited + points })
-      own = record {
-        paid_in = rw (deposits, account.paid_in, worth) (omega arith);
-        taken_out = account.taken_out ∙ ap (λ (n : ℕ). market.points_per_bit * n) withdrawals;
-        paid_to = paid_still (Deposit user bits) user (account_of accounts user)
-            (let before = account_of accounts user in record before { deposited = before.deposited + points }) refl account refl refl;
-      }
+      accounts_set (Deposit user bits) accounts user _ refl refl within
+      (λ u other. (rw (ne_eqb user u (λ same. other (sym same))) refl, refl))
+      (account_moved (Deposit user bits) user (account_of accounts user)
+      (with_deposited (account_of accounts user) points) refl
+      (old.each user (omega (arith, within, old.one_each))) refl refl
+      bits 0 (rw (eq-eqb user user refl) refl) refl
+      (ap (λ (n : ℕ). (account_of accounts user).deposited + n) worth)
+      (no_points (account_of accounts user).withdrawn))
+      old
 
   -- or taken out
   pub accounts_withdrawn : (accounts : List Account) (user bits points : ℕ) → user < length (users H) → points ≡ market.points_per_bit * bits → AreAccounts market H accounts
-      → AreAccounts market (H ++ Withdraw user bits ∷ []) (slice_set accounts user (let before = account_of accounts user in record before { withdrawn = before.withdrawn + points }))
+      → AreAccounts market (H ++ Withdraw user bits ∷ [])
+      (slice_set accounts user (with_withdrawn (account_of accounts user) points))
   accounts_withdrawn accounts user bits points within worth old =
-      accounts_set (Withdraw user bits) accounts user (let before = account_of accounts user in record before { withdrawn = before.withdrawn + points }) refl refl within
-      (λ u other. (refl, rw (ne_eqb user u (λ same. other (sym same))) refl)) own old
-    where
-      account : IsAccount market H user (account_of accounts user)
-      account = old.each user (omega (arith, within, old.one_each))
-
-      outs : bits_out user (Withdraw user bits) ≡ bits
-      outs = rw (eq-eqb user user refl) refl
-
-      withdrawals : withdrawn (H ++ Withdraw user bits ∷ []) user ≡ withdrawn H user + bits
-      withdrawals = withdrawn_more H (Withdraw user bits) user ∙ ap (λ (n : ℕ). withdrawn H user + n) outs
-
-      deposits : deposited H user ≡ deposited (H ++ Withdraw user bits ∷ []) user
-      deposits = omega (arith, deposited_more H (Withdraw user bits) user)
-
-      own : IsAccount market (H ++ Withdraw user bits ∷ []) user (let before = account_of accounts user in record before { withdrawn = before.withdrawn + points })
-      own = record {
-        paid_in = account.paid_in ∙ ap (λ (n : ℕ). market.points_per_bit * n) deposits;
-        taken_out = rw (withdrawals, account.taken_out, worth) (omega arith);
-        paid_to = paid_still (Withdraw user bits) user (account_of accounts user)
-            (let before = account_of accounts user in record before { withdrawn = before.withdrawn + points }) refl account refl refl;
-      }
+      accounts_set (Withdraw user bits) accounts user _ refl refl within
+      (λ u other. (refl, rw (ne_eqb user u (λ same. other (sym same))) refl))
+      (account_moved (Withdraw user bits) user (account_of accounts user)
+      (with_withdrawn (account_of accounts user) points) refl
+      (old.each user (omega (arith, within, old.one_each))) refl refl
+      0 bits refl (rw (eq-eqb user user refl) refl) (no_points (account_of accounts user).deposited)
+      (ap (λ (n : ℕ). (account_of accounts user).withdrawn + n) worth))
+      old
 
   -- a user joins
   pub accounts_joined : (accounts : List Account) (name : List ℕ) → AllByRecursion (FitsTransfer (length (users H))) H → AreAccounts market H accounts

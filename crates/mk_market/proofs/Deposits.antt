@@ -1,13 +1,11 @@
 -- Bits are paid in.
-use Rattle.std.specs.Prelude.{◌≡◌, ℕ, ◌+◌, ◌*◌, ◌<◌, ◌≤◌, List, [], ◌∷◌, ◌++◌, map, length, Option}
-use Rattle.std.specs.Prelude.{Some, None, option_map, slice_get, slice_set}
-use Rattle.std.proofs.Common.{refl, sym, ap, ap₂, ◌∙◌, subst, arith}
-use Rattle.std.proofs.Math.Nat.{mul-le-mul}
+use Rattle.std.specs.Prelude.{◌≡◌, ℕ, ◌+◌, ◌*◌, ◌<◌, ◌≤◌, List, [], ◌∷◌, ◌++◌, length, Option}
+use Rattle.std.specs.Prelude.{Some, None, slice_get, slice_set}
+use Rattle.std.proofs.Common.{refl, sym, ap, ◌∙◌, subst, arith}
 use Rattle.std.proofs.lemmas.List.{length_push}
 use Rattle.mk_net.specs.Network.{Variable}
 use Rattle.mk_net.specs.Bounds.{number_limit}
 use Rattle.mk_exact.specs.History.{Entry, Deposit as Deposits, users, deposited, revision}
-use Rattle.mk_exact.specs.History.{is_settlement}
 use Rattle.mk_tree.specs.Given.{GivenTree}
 use Rattle.mk_file.specs.declared.market_file.MarketFile.{MarketFile}
 use Rattle.mk_file.specs.MarketOf.{market_of}
@@ -15,29 +13,24 @@ use Rattle.mk_engine.specs.Meaning.{Meaning}
 use Rattle.mk_assets.specs.declared.assets.Assets.{Assets}
 use Rattle.mk_assets.specs.Holdings.{Holding, Holds, CanDeposit, max_bits, with_deposit}
 use Rattle.mk_cash.specs.Accounts.{account_of, LedgerOf}
-use Rattle.mk_record.specs.declared.last_quote.LastQuote.{LastQuote}
 use Rattle.mk_command.specs.declared.command.Command.TheVariants.{Deposit}
 use Rattle.mk_reply.specs.declared.payments.Payment.{Payment}
-use Rattle.mk_reply.specs.declared.reply.Reply.{Reply}
 use Rattle.mk_reply.specs.declared.reply.Reply.TheVariants.{Deposited}
 use Rattle.mk_rules.specs.Refusals.{first_refusal}
-use Rattle.mk_restore.specs.Restoring.{IsFit}
 use Rattle.mk_rules.specs.Transcript.{OfCommand, IsAllowedFor, after}
 use Rattle.mk_answers.specs.Open.{holding_of}
 use Rattle.mk_record.specs.declared.users.Member.{Member}
 use Rattle.mk_record.specs.Journals.{JournalOf}
-use Rattle.mk_record.specs.Members.{assets_of, quotes_of, with_assets}
-use Rattle.mk_market.specs.Points.{IsAccount, ArePaidBy}
+use Rattle.mk_record.specs.Members.{assets_of, with_assets}
+use Rattle.mk_market.specs.Points.{ArePaidBy}
 use Rattle.mk_record.specs.Refused.{IsUser, HasRoomForTransfer}
 use Rattle.mk_asking.specs.Keeping.{TakesAsMuch}
-use Rattle.mk_market.specs.inner.Keeping.{quoted, standing_of, IsKept}
-use Rattle.mk_record.proofs.Appends.{not_there, not_found}
-use Rattle.mk_market.proofs.Growing.{kept_grown}
-use Rattle.mk_asking.proofs.Owned.{names_same, quotes_same, held_one}
+use Rattle.mk_market.specs.inner.Keeping.{standing_of, IsKept}
+use Rattle.mk_market.proofs.Moved.{points_below, its_account, transfer_paid, transfer_next, transfer_kept}
 use Rattle.mk_market.proofs.Owned.{deposit_holding}
 use Rattle.mk_market.proofs.Owned.{deposit_others}
 use Rattle.mk_parts.proofs.Moved.{few_moved}
-use Rattle.mk_market.proofs.Accounted.{paid_set, accounts_deposited}
+use Rattle.mk_market.proofs.Accounted.{accounts_deposited}
 use Rattle.mk_market.proofs.Replies.{answer_allowed, unsettled}
 use Rattle.mk_replay.specs.Tills.{TillOf}
 
@@ -53,9 +46,10 @@ module _ {P A Plan : Type 0} (weights_stand : P → Meaning → Type 0) (gains_s
 
   pub points_fit : (account_of ledger.accounts user).deposited + file.points_per_bit * bits < number_limit
   points_fit =
-      let account : IsAccount (market_of file) journal.history user (account_of ledger.accounts user) = kept.accounts_kept.each user (omega (arith, is_user.within, kept.accounts_kept.one_each)) in
-      let most : file.points_per_bit * (deposited journal.history user + bits) ≤ 1000000 * 1000000000 = mul-le-mul file.points_most bits_fit in
-      omega (arith, account.paid_in, most)
+      points_below file (deposited journal.history user) bits
+      (account_of ledger.accounts user).deposited bits_fit
+      (its_account weights_stand gains_stand plan_for file prices rows plan members ledger journal
+      payments till kept name user is_user).paid_in
 
   pub deposit_paid : (new_ledger : LedgerOf)
       → new_ledger ≡ record ledger {
@@ -64,64 +58,44 @@ module _ {P A Plan : Type 0} (weights_stand : P → Meaning → Type 0) (gains_s
       }
       → (at : ℕ) → ArePaidBy (Deposited name bits at) ledger.accounts new_ledger.accounts
   deposit_paid new_ledger entered at u =
-      ap (λ (l : LedgerOf). (account_of l.accounts u).paid) entered
-      ∙ paid_set ledger.accounts user (let account = account_of ledger.accounts user in record account
-      { deposited = account.deposited + file.points_per_bit * bits })
-      (omega (arith, is_user.within, kept.accounts_kept.one_each)) refl u
+      transfer_paid weights_stand gains_stand plan_for file prices rows plan members ledger journal
+      payments till kept name user is_user new_ledger
+      (let account = account_of ledger.accounts user in record account
+      { deposited = account.deposited + file.points_per_bit * bits }) entered refl u
 
   module _ (before now : Assets A Plan) (there : slice_get (assets_of members) user ≡ Some before) (new_ledger : LedgerOf) (new_journal : JournalOf)
       (history : new_journal.history ≡ journal.history ++ Deposits user bits ∷ []) (none : None ≡ first_refusal (market_of file) journal.history (Deposit name bits)) where
-    same_quotes : quotes_of (with_assets members user now) ≡ quotes_of members
-    same_quotes = quotes_same members user before now there
-
-    reply : Reply
-    reply = Deposited name bits (revision journal.history + 1)
-
-    allowed : IsAllowedFor (market_of file) (standing_of journal members) (OfCommand (Deposit name bits)) reply
-    unfolding reply
-    allowed = answer_allowed (market_of file) (standing_of journal members) (Deposit name bits) (Deposited name bits (revision journal.history + 1)) none refl
-
-    fit : IsFit (market_of file) journal.history (Deposit name bits) reply
-    unfolding reply
-    fit = record { unrefused = sym none; agrees = refl }
-
-    next : standing_of new_journal (with_assets members user now) ≡ after (market_of file) (standing_of journal members) (OfCommand (Deposit name bits)) reply
-    unfolding reply
-    next = ap₂ (λ (H : List Entry) (qs : List (Option LastQuote)). record { history = H; quotes = map (option_map quoted) qs })
-        (history ∙ ap (λ (v : ℕ). journal.history ++ Deposits v bits ∷ []) is_user.number) same_quotes
-
     -- the market is kept
     pub deposit_kept : TakesAsMuch journal new_journal
         → ((h : Holding) → Holds gains_stand before h → h.deposited + bits ≤ max_bits → Holds gains_stand now (with_deposit bits h))
         → new_ledger ≡ record ledger { accounts = slice_set ledger.accounts user (let account = account_of ledger.accounts user in record account { deposited = account.deposited + file.points_per_bit * bits }) }
         → IsKept weights_stand gains_stand plan_for file prices rows plan (with_assets members user now) new_ledger new_journal payments till
-    unfolding reply
     deposit_kept limits deposits paid =
         let H = journal.history in
-        kept_grown weights_stand gains_stand plan_for file prices prices rows rows plan members (with_assets members user now) ledger new_ledger journal new_journal payments payments till till
-        (Deposits user bits) (Deposit name bits) reply tt tt tt kept fit next
-        (record {
-          history = history;
-          limits = limits;
-          prices_grown = λ m stands. stands;
-          rows_grown = λ m stands. stands;
-          names = names_same members user before now there ∙ kept.named ∙ sym (not_found H (Deposits user bits) Rattle.mk_exact.specs.History.join_in refl);
-          held = held_one file.net file.tree H gains_stand members user before now (Deposits user bits) there kept.held
-              (subst (Holds gains_stand now) (sym (deposit_holding file.net file.tree H user bits)) (deposits (holding_of file.net file.tree H user) (kept.held user before there) bits_fit))
-              (deposit_others file.net file.tree H user bits);
-          none_quoted = λ u quote at. subst (λ (qs : List (Option LastQuote)). slice_get qs u ≡ Some (Some quote)) same_quotes at;
-          accounts = rw paid (accounts_deposited (market_of file) H (unsettled (market_of file) H (Deposit name bits) none) ledger.accounts user bits (file.points_per_bit * bits) is_user.within refl kept.accounts_kept);
-          ledger_room = rw paid kept.ledger_room;
-          room = λ unsettled. kept.room (sym (not_there H (Deposits user bits) is_settlement refl) ∙ unsettled);
-          till_room = λ unsettled. kept.till_room (sym (not_there H (Deposits user bits) is_settlement refl) ∙ unsettled);
-        })
+        transfer_kept weights_stand gains_stand plan_for file prices rows plan members ledger
+        journal payments till kept name user is_user
+        (λ (v : ℕ). Deposits v bits) before now there new_ledger new_journal history
+        (Deposit name bits) (Deposited name bits (revision H + 1)) tt tt tt
+        (record { unrefused = sym none; agrees = refl }) refl
+        (record { joins = refl; settles = refl; weights = λ m. refl; rows = λ m. refl }) limits
+        (subst (Holds gains_stand now) (sym (deposit_holding file.net file.tree H user bits))
+        (deposits (holding_of file.net file.tree H user) (kept.held user before there) bits_fit))
+        (deposit_others file.net file.tree H user bits)
+        (rw paid (accounts_deposited (market_of file) H
+        (unsettled (market_of file) H (Deposit name bits) none) ledger.accounts user bits
+        (file.points_per_bit * bits) is_user.within refl kept.accounts_kept))
+        (rw paid kept.ledger_room)
 
     pub deposit_allowed : (at : ℕ) → at ≡ revision new_journal.history → IsAllowedFor (market_of file) (standing_of journal members) (OfCommand (Deposit name bits)) (Deposited name bits at)
-    unfolding reply
     deposit_allowed at e =
         subst (λ (n : ℕ). IsAllowedFor (market_of file) (standing_of journal members) (OfCommand (Deposit name bits)) (Deposited name bits n))
-        (sym (e ∙ ap (λ (H : List Entry). length H) history ∙ length_push journal.history (Deposits user bits))) allowed
+        (sym (e ∙ ap (λ (H : List Entry). length H) history
+        ∙ length_push journal.history (Deposits user bits)))
+        (answer_allowed (market_of file) (standing_of journal members) (Deposit name bits)
+        (Deposited name bits (revision journal.history + 1)) none refl)
 
     pub deposit_next : (at : ℕ) → standing_of new_journal (with_assets members user now) ≡ after (market_of file) (standing_of journal members) (OfCommand (Deposit name bits)) (Deposited name bits at)
-    unfolding reply
-    deposit_next at = next
+    deposit_next at =
+        transfer_next weights_stand gains_stand plan_for file prices rows plan members ledger
+        journal payments till kept name user is_user
+        (λ (v : ℕ). Deposits v bits) before now there new_ledger new_journal history

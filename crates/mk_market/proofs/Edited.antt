@@ -1,12 +1,11 @@
 -- A user is quoted limits, or an edit is judged by them.
-use Rattle.std.specs.Prelude.{◌≡◌, ℕ, ◌+◌, ◌==◌, List, [], ◌∷◌, ◌++◌, Bool, true, false}
-use Rattle.std.specs.Prelude.{if◌then◌else◌, length, map, Option, Some, None, option_map}
+use Rattle.std.specs.Prelude.{◌≡◌, ℕ, ◌+◌, ◌==◌, List, [], ◌∷◌, ◌++◌}
+use Rattle.std.specs.Prelude.{length, map, Option, Some, None, option_map}
 use Rattle.std.specs.Prelude.{option_and_then, option_to_list, MatchOption, IsSomeAnd, Result, Ok}
-use Rattle.std.specs.Prelude.{Err, IsErrAnd, ⊤, slice_get}
+use Rattle.std.specs.Prelude.{Err, IsErrAnd, slice_get}
 use Rattle.std.proofs.Common.{refl, sym, ap, ap₂, ◌∙◌, subst, inl, inr, arith}
 use Rattle.std.proofs.lemmas.Bool.{eqb-true}
 use Rattle.std.proofs.lemmas.List.{length_push}
-use Rattle.std.proofs.lemmas.Option.{slice_get-map}
 use Rattle.mk_net.specs.declared.words.QuestionText.{QuestionText}
 use Rattle.mk_net.specs.Network.{Variable}
 use Rattle.mk_net.specs.Asked.{Asked, IsUnits}
@@ -56,6 +55,7 @@ use Rattle.mk_asking.specs.Quoting.{IsQuoteOf}
 use Rattle.mk_market.proofs.Apart.{EachOwns, AreApart, left_alone, each_owns}
 use Rattle.mk_market.proofs.Apart.{each_owns_then, others_left}
 use Rattle.mk_market.proofs.Growing.{is_open}
+use Rattle.mk_market.proofs.Judged.{TheSame, in_quote, in_other, judged_by}
 use Rattle.mk_asking.proofs.Quotes.{AreQuoted}
 use Rattle.mk_market.proofs.Quotes.{trading, quote_said, standing_quoted}
 use Rattle.mk_market.proofs.Replies.{answer_allowed, refusal_allowed, none_appended, nothing_added}
@@ -145,55 +145,22 @@ module _ (network : List Variable) (tree : GivenTree) (H : List Entry) (u : ℕ)
 
 -- ---- limits in the standing
 
--- the limits that the rules find in a user's last quote
-current_in : Option (Option LastQuote) → Asked → ℕ → Option rules.Interval
-current_in o asked now = rules.current_limits (option_and_then (λ held. held) (option_map (option_map quoted) o)) asked now
-
--- are those of the quote that judges
-module _ (asked : Asked) (now : ℕ) (quote : Quote) where
-  TheSame : Option rules.Interval → Type 0
-  TheSame o = MatchOption o ⊤ (λ (limits : rules.Interval). limits ≡ limits_of quote)
-
-  in_question : (held : Quote) (b : Bool) → (b ≡ true → held ≡ quote) → TheSame (if b then Some (limits_of held) else None)
-  unfolding TheSame
-  in_question held false h = tt
-  in_question held true h = ap limits_of (h refl)
-
-  in_quote : (held : Quote) (b : Bool) → (b ≡ true → IsFor held asked now → quote ≡ held) → (b ≡ true → revision_of held ≡ now)
-      → TheSame (if b then rules.limits_in (rules.EditLimits (question_of held) (limits_of held)) asked else None)
-  unfolding TheSame
-  in_quote held false h at = tt
-  in_quote held true h at =
-      in_question held (rules.same_question (question_of held) asked)
-      (λ same. sym (h refl (record { same_question = same_question_is (question_of held) asked same; same_revision = at refl })))
-
-  -- bounds of a spread hold none
-  none_in : (b : Bool) → TheSame (if b then None else None)
-  unfolding TheSame
-  none_in false = tt
-  none_in true = tt
-
-  current_is : (o : Option (Option LastQuote)) → ((held : Quote) → o ≡ Some (Some (LastLimits held)) → IsFor held asked now → quote ≡ held) → TheSame (current_in o asked now)
-  unfolding TheSame current_in
-  current_is None h = tt
-  current_is (Some None) h = tt
-  current_is (Some (Some (LastLimits held))) h = in_quote held (revision_of held == now) (λ same for. h held refl for) (λ same. eqb-true (revision_of held) now same)
-  current_is (Some (Some (LastBounds held))) h = none_in _
-
--- an edit is judged by a quote: by its limits, where the user was quoted them
-pub judged_by : {A Plan : Type 0} (members : List (Member A Plan)) (user : ℕ) (asked : Asked) (now : ℕ) (quote : Quote)
-    → ((held : Quote) → slice_get (quotes_of members) user ≡ Some (Some (LastLimits held)) → IsFor held asked now → quote ≡ held)
-    → (Afresh : Type 0) (By : rules.Interval → Type 0) → Afresh → By (limits_of quote)
-    → MatchOption (rules.current_limits (rules.last_quote (map (option_map quoted) (quotes_of members)) user) asked now) Afresh By
-unfolding current_in TheSame
-judged_by members user asked now quote last Afresh By afresh by =
-    subst (λ (o : Option (Option rules.Quote)). MatchOption (rules.current_limits (option_and_then (λ held. held) o) asked now) Afresh By)
-    (sym (slice_get-map (option_map quoted) (quotes_of members) user))
-    (at (current_in (slice_get (quotes_of members) user) asked now) (current_is asked now quote (slice_get (quotes_of members) user) last))
-  where
-    at : (o : Option rules.Interval) → MatchOption o ⊤ (λ (limits : rules.Interval). limits ≡ limits_of quote) → MatchOption o Afresh By
-    at None h = afresh
-    at (Some limits) h = subst By (sym h) by
+-- the limits that the rules find in a user's last quote are those of the quote that judges
+current_is : (asked : Asked) (now : ℕ) (quote : Quote) (o : Option (Option LastQuote))
+    → ((held : Quote) → o ≡ Some (Some (LastLimits held)) → IsFor held asked now → quote ≡ held)
+    → TheSame limits_of quote (rules.current_limits
+    (option_and_then (λ held. held) (option_map (option_map quoted) o)) asked now)
+current_is asked now quote None h = tt
+current_is asked now quote (Some None) h = tt
+current_is asked now quote (Some (Some (LastLimits held))) h =
+    in_quote limits_of quote held (rules.same_question (question_of held) asked)
+    (revision_of held == now)
+    (λ same at. h held refl (record {
+      same_question = same_question_is (question_of held) asked
+          same;
+      same_revision = eqb-true (revision_of held) now at;
+    }))
+current_is asked now quote (Some (Some (LastBounds held))) h = in_other limits_of quote _
 
 -- an edit that no refusal of the table meets is answered as the quote judges it
 module _ {A Plan : Type 0} (file : MarketFile) (journal : JournalOf) (members : List (Member A Plan)) (name : List ℕ) (user : ℕ) (is_user : IsUser journal.history name user)
@@ -212,7 +179,11 @@ module _ {A Plan : Type 0} (file : MarketFile) (journal : JournalOf) (members : 
       (subst (λ (n : ℕ). MatchOption (rules.current_limits (rules.last_quote quotes n) asked (revision H))
       (IsJudgedAfresh file.net H n asked X reply) (λ limits. IsJudged file.net H n asked X limits reply))
       is_user.number
-      (judged_by members user asked (revision H) quote last (IsJudgedAfresh file.net H user asked X reply) (λ limits. IsJudged file.net H user asked X limits reply) afresh by)))
+      (judged_by limits_of quote (λ (held : Quote). LastLimits held)
+      (λ (o : Option rules.Quote). rules.current_limits o asked (revision H))
+      (λ (held : Quote). IsFor held asked (revision H)) (current_is asked (revision H) quote)
+      members user last (IsJudgedAfresh file.net H user asked X reply)
+      (λ limits. IsJudged file.net H user asked X limits reply) afresh by)))
 
 -- ---- the market
 
@@ -290,6 +261,12 @@ module _ {P A Plan : Type 0} (weights_stand : P → Meaning → Type 0) (gains_s
 
 -- ---- a trade
 
+-- two numbers that are units, and so those of a reply
+pub record AreUnits (hit miss : ℕ) : Type 0 where
+  pub hit_units : IsUnits hit
+  pub miss_units : IsUnits miss
+  pub ratios : IsRatio hit × IsRatio miss
+
 module _ (file : MarketFile) (journal : JournalOf) (open_for : IsOpen file.net file.tree journal.history) (name : List ℕ) (user : ℕ) (is_user : IsUser journal.history name user)
     (q : QuestionText) (asked : Asked) (is_question : IsQuestionFor (market_of file) file.tree journal.history q asked)
     (quote : Quote) (is : IsQuoteOf file.net file.tree journal.history user asked quote) (X hit miss : ℕ) (fair : AreFairAndSolvent (bounds_of quote) X hit miss) where
@@ -297,17 +274,18 @@ module _ (file : MarketFile) (journal : JournalOf) (open_for : IsOpen file.net f
   pair = fair_pair file.net file.tree journal.history user asked quote is open_for X hit miss fair
 
   -- both numbers are units
-  pub hit_units : IsUnits hit
-  hit_units = record { positive = pair.hit_units.fair.positive; fits = pair.hit_units.fair.fits }
-
-  pub miss_units : IsUnits miss
-  miss_units = record { positive = pair.miss_units.fair.positive; fits = pair.miss_units.fair.fits }
-
-  pub trade_has_units : IsRatio hit × IsRatio miss
-  trade_has_units = (
-    record { positive = pair.hit_units.fair.positive; below = pair.hit_units.fair.fits },
-    record { positive = pair.miss_units.fair.positive; below = pair.miss_units.fair.fits },
-  )
+  pub units_fit : AreUnits hit miss
+  units_fit =
+      let of_hit = pair.hit_units.fair in
+      let of_miss = pair.miss_units.fair in
+      record {
+        hit_units = record { positive = of_hit.positive; fits = of_hit.fits };
+        miss_units = record { positive = of_miss.positive; fits = of_miss.fits };
+        ratios = (
+          record { positive = of_hit.positive; below = of_hit.fits },
+          record { positive = of_miss.positive; below = of_miss.fits },
+        );
+      }
 
   module _ {A Plan : Type 0} (members new_members : List (Member A Plan)) (new_journal : JournalOf) (seen : Option ℕ)
       (none : None ≡ first_refusal (market_of file) journal.history (Edit name q X seen)) (inside : Inside (limits_of quote) X)

@@ -20,7 +20,7 @@ use Rattle.mk_engine.specs.Meaning.{Meaning}
 use Rattle.mk_beliefs.specs.Meanings.{weights_of}
 use Rattle.mk_answers.specs.Open.{IsOpen, CanBeSpreadHere}
 use Rattle.mk_answers.proofs.Homes.{condition_is_held}
-use Rattle.mk_asking.specs.Stopped.{CanRefuseCondition}
+use Rattle.mk_asking.specs.Stopped.{CanRefuseCondition, IsConditionBy}
 use Rattle.mk_file.specs.declared.market_file.MarketFile.{MarketFile}
 use Rattle.mk_file.specs.MarketOf.{market_of}
 use Rattle.mk_command.specs.declared.command.Command.TheVariants.{Prices, Position}
@@ -33,51 +33,49 @@ use Rattle.mk_rules.specs.Told.{ArePrices, IsPosition}
 use Rattle.mk_rules.specs.Transcript.{Standing, OfCommand, IsAllowedFor}
 use Rattle.mk_rules.proofs.Spreads.{spread_parts}
 use Rattle.mk_assets.specs.declared.assets.Assets.{Assets}
-use Rattle.mk_assets.specs.Holdings.{Holding, Owns}
-use Rattle.mk_cash.specs.Accounts.{LedgerOf}
-use Rattle.mk_reply.specs.declared.payments.Payment.{Payment}
 use Rattle.mk_record.specs.declared.last_quote.LastQuote.{LastQuote}
 use Rattle.mk_record.specs.declared.users.Member.{Member}
 use Rattle.mk_record.specs.Journals.{JournalOf}
 use Rattle.mk_record.specs.Members.{assets_of, with_assets}
 use Rattle.mk_record.specs.Refused.{IsUser, IsSpreadQuestionFor}
-use Rattle.mk_market.specs.inner.Keeping.{IsKept, quoted, standing_of}
-use Rattle.mk_market.proofs.Growing.{kept_still}
-use Rattle.mk_asking.proofs.Learnt.{holds_still}
-use Rattle.mk_asking.proofs.Owned.{names_same, quotes_same, all_still}
+use Rattle.mk_market.specs.inner.Keeping.{quoted, standing_of}
+use Rattle.mk_asking.proofs.Owned.{quotes_same}
 use Rattle.mk_market.proofs.Replies.{answer_allowed, refusal_allowed, stopped_by_states, unrefused}
 use Rattle.mk_asking.proofs.Together.{none_together}
-use Rattle.mk_replay.specs.Tills.{TillOf}
 
 -- ---- a condition that cannot come
 
 pub can_refuse_told : {E : Type 0} (stands_for : E → Meaning → Type 0) (prices : E)
     (network : List Variable) (tree : GivenTree) (H : List Entry) →
     stands_for prices (weights_of network tree H) → IsOpen network tree H →
-    (v : List ℕ) (words : List PairText) (spread : SpreadAsked) →
-    spread_named network v words ≡ Some spread → unknown network words ≡ None →
+    (words : List PairText) (spread : SpreadAsked) →
+    IsConditionBy network words spread.condition →
     CanBeSpreadHere network tree H spread →
     (at : ℕ) → home tree (pairs_asked (asked_of spread 0)) ≡ Some at →
     cannot_come network H (holds spread.condition) ≡ true →
     CanRefuseCondition stands_for prices at spread.condition words
-can_refuse_told stands_for prices network tree H stands open_for v words spread named known answered
+can_refuse_told stands_for prices network tree H stands open_for words spread by answered
     at at_home cannot = record {
       network = network;
       tree = tree;
       history = H;
       stands = stands;
       is_open = open_for;
-      condition_by = record { known = known; named = (spread_parts network v words spread named).2 };
+      condition_by = by;
       in_range = answered.in_order.in_range.condition;
       held = condition_is_held tree at (asked_of spread 0) spread.condition refl
           (home_is_held tree at _ at_home);
       cannot = cannot;
     }
 
--- the words of a condition in a list of their own
-pub known_of : (network : List Variable) (words items : List PairText) → words ≡ items →
-    unknown network items ≡ None → unknown network words ≡ None
-known_of network words items same known = ap (unknown network) same ∙ known
+-- words that are known are those of the condition
+pub condition_by : (network : List Variable) (v : List ℕ) (words items : List PairText)
+    (spread : SpreadAsked) → spread_named network v words ≡ Some spread → words ≡ items
+    → unknown network items ≡ None → IsConditionBy network words spread.condition
+condition_by network v words items spread named same known = record {
+  known = ap (unknown network) same ∙ known;
+  named = (spread_parts network v words spread named).2;
+}
 
 -- ---- answers
 
@@ -160,28 +158,3 @@ same_standing journal members user before now there =
     ap (λ (qs : List (Option LastQuote)). record
     { history = journal.history; quotes = map (option_map quoted) qs })
     (quotes_same members user before now there)
-
-module _ {P A Plan : Type 0} (weights_stand : P → Meaning → Type 0) (gains_stand : A → Meaning
-    → Type 0)
-    (plan_for : Plan → List Variable → GivenTree
-    → Type 0) (file : MarketFile) (prices : P) (rows : A) (plan : Plan)
-    (members : List (Member A Plan)) (ledger : LedgerOf) (journal : JournalOf)
-    (payments : Option (List Payment)) (till : Option TillOf)
-    (kept : IsKept weights_stand gains_stand plan_for file prices rows plan members ledger journal
-    payments till) where
-  pub position_kept : (new_prices : P) → ((m : Meaning) → weights_stand prices m
-      → weights_stand new_prices m) →
-      (user : ℕ) (before now : Assets A Plan) → slice_get (assets_of members) user ≡ Some before →
-      ((h : Holding) → Owns gains_stand before h → Owns gains_stand now h) →
-      IsKept weights_stand gains_stand plan_for file new_prices rows plan
-      (with_assets members user now) ledger journal payments till
-  position_kept new_prices stands_still user before now there still =
-      kept_still weights_stand gains_stand plan_for file prices new_prices rows plan members
-      (with_assets members user now) ledger journal payments till kept
-      (record {
-        prices_still = stands_still;
-        names_still = names_same members user before now there;
-        quotes_still = quotes_same members user before now there;
-        held_still = all_still members user before now there gains_stand
-            (holds_still gains_stand before now still);
-      })

@@ -89,22 +89,12 @@ module _ {P A Plan : Type 0} (weights_stand : P → Meaning → Type 0) (gains_s
       → AreKeptQuotes file.net file.tree journal.history (quotes_of new_members)
       → IsKept weights_stand gains_stand plan_for file new_prices new_rows plan new_members ledger journal payments till
   kept_by file prices new_prices rows new_rows plan members new_members ledger journal payments till kept prices_stand rows_stand named held quotes_kept = record {
-    legal = kept.legal;
-    tree = kept.tree;
-    planned = kept.planned;
+    beside = kept.beside;
     prices_stand = prices_stand;
     rows_stand = rows_stand;
     named = named;
     held = held;
     quotes_kept = quotes_kept;
-    accounts_kept = kept.accounts_kept;
-    ledger_room = kept.ledger_room;
-    safe = kept.safe;
-    max_trades = kept.max_trades;
-    max_users = kept.max_users;
-    max_transfers = kept.max_transfers;
-    room = kept.room;
-    till_room = kept.till_room;
   }
 
   -- what the parts of a market became by an entry
@@ -135,9 +125,20 @@ module _ {P A Plan : Type 0} (weights_stand : P → Meaning → Type 0) (gains_s
       let market = market_of file in
       let back : journal.history ++ e ∷ [] ≡ new_journal.history = sym are.history in
       record {
-        legal = kept.legal;
-        tree = kept.tree;
-        planned = kept.planned;
+        beside = record {
+          legal = kept.legal;
+          tree = kept.tree;
+          planned = kept.planned;
+          accounts_kept = subst (λ (H : List Entry). AreAccounts (market_of file) H new_ledger.accounts) back are.accounts;
+          ledger_room = are.ledger_room;
+          safe = subst (λ (now : Standing). IsSafe market now.history) (sym next)
+              (fit_stays_safe market journal.history command reply joins other units kept.safe fit);
+          max_trades = are.limits.trades ∙ kept.max_trades;
+          max_users = are.limits.users ∙ kept.max_users;
+          max_transfers = are.limits.transfers ∙ kept.max_transfers;
+          room = λ unsettled. are.room (subst (λ (H : List Entry). is_settled H ≡ false) are.history unsettled);
+          till_room = λ unsettled. are.till_room (subst (λ (H : List Entry). is_settled H ≡ false) are.history unsettled);
+        };
         prices_stand = subst (λ (H : List Entry). weights_stand new_prices (weights_of file.net file.tree H)) back
             (subst (weights_stand new_prices) (sym (weights_grow file.net file.tree journal.history e)) (are.prices_grown (weights_of file.net file.tree journal.history) kept.prices_stand));
         rows_stand = subst (λ (H : List Entry). gains_stand new_rows (rows_of file.net file.tree H)) back
@@ -146,15 +147,6 @@ module _ {P A Plan : Type 0} (weights_stand : P → Meaning → Type 0) (gains_s
         held = λ u assets at. subst (λ (H : List Entry). Holds gains_stand assets (holding_of file.net file.tree H u)) back (are.held u assets at);
         quotes_kept = λ u quote at. subst (λ (H : List Entry). IsKeptQuote file.net file.tree H u quote) back
             (quote_later file.net file.net file.tree file.tree journal.history e u quote (kept.quotes_kept u quote (are.none_quoted u quote at)));
-        accounts_kept = subst (λ (H : List Entry). AreAccounts (market_of file) H new_ledger.accounts) back are.accounts;
-        ledger_room = are.ledger_room;
-        safe = subst (λ (now : Standing). IsSafe market now.history) (sym next)
-            (fit_stays_safe market journal.history command reply joins other units kept.safe fit);
-        max_trades = are.limits.trades ∙ kept.max_trades;
-        max_users = are.limits.users ∙ kept.max_users;
-        max_transfers = are.limits.transfers ∙ kept.max_transfers;
-        room = λ unsettled. are.room (subst (λ (H : List Entry). is_settled H ≡ false) are.history unsettled);
-        till_room = λ unsettled. are.till_room (subst (λ (H : List Entry). is_settled H ≡ false) are.history unsettled);
       }
 
   -- engines that stand for all that they stood for, and assets of all holdings that they were of, beside the same names and quotes

@@ -4,12 +4,14 @@ pub mod Refiled
 pub mod Apart
 pub mod Quotes
 pub mod Stopping
+pub mod Judged
 pub mod Edited
 pub mod Spreads
 pub mod StoppedSpreads
 pub mod Owned
 pub mod Accounted
 pub mod Replies
+pub mod Moved
 pub mod Deposits
 pub mod Joins
 pub mod Answers

@@ -33,20 +33,22 @@ pub opening_kept : {P A Plan : Type 0} (weights_stand : P → Meaning → Type 0
     → IsKept weights_stand gains_stand plan_for file prices rows plan members ledger journal (Some payments) (Some till)
 opening_kept weights_stand gains_stand plan_for file prices rows plan members ledger journal payments till legal tree planned prices_stand rows_stand no_member no_account begun none room =
     rw (no_member, no_account, begun, none, room) (record {
-      legal = legal;
-      tree = tree;
-      planned = planned;
+      beside = record {
+        legal = legal;
+        tree = tree;
+        planned = planned;
+        accounts_kept = record { one_each = refl; each = λ u h. absurd (omega (arith, h)) };
+        ledger_room = refl;
+        safe = opening_is_safe (market_of file) (market_is file legal tree);
+        max_trades = refl;
+        max_users = refl;
+        max_transfers = refl;
+        room = λ h. refl;
+        till_room = λ h. refl;
+      };
       prices_stand = prices_stand;
       rows_stand = rows_stand;
       named = refl;
       held = λ u assets at. absurd (cc);
       quotes_kept = λ u quote at. absurd (cc);
-      accounts_kept = record { one_each = refl; each = λ u h. absurd (omega (arith, h)) };
-      ledger_room = refl;
-      safe = opening_is_safe (market_of file) (market_is file legal tree);
-      max_trades = refl;
-      max_users = refl;
-      max_transfers = refl;
-      room = λ h. refl;
-      till_room = λ h. refl;
     })

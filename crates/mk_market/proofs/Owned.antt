@@ -3,7 +3,7 @@ use Rattle.std.specs.Prelude.{◌≡◌, ℕ, ◌+◌, List, [], ◌∷◌, ◌+
 use Rattle.std.specs.Prelude.{Option, Some, None}
 use Rattle.std.specs.Prelude.{slice_get, ◌⊎◌}
 use Rattle.std.specs.List.{AllByRecursion}
-use Rattle.std.proofs.Common.{inl, inr, refl, sym, ap, ◌∙◌, subst, arith, eq-eqb, ne_eqb}
+use Rattle.std.proofs.Common.{inl, inr, refl, sym, ap, ap₂, ◌∙◌, subst, arith, eq-eqb, ne_eqb}
 use Rattle.std.proofs.lemmas.List.{length-map, map-append}
 use Rattle.mk_net.specs.Network.{Variable}
 use Rattle.mk_exact.specs.History.{Entry, Join, Deposit, Withdraw}
@@ -26,15 +26,28 @@ use Rattle.mk_asking.proofs.Owned.{holding_grows, holding_same}
 
 -- what each user holds after a transfer
 module _ (network : List Variable) (tree : GivenTree) (H : List Entry) where
+  -- the gains of a user beside these bits
+  abbrev with_bits : ℕ → ℕ → ℕ → Holding
+  with_bits user d w = record {
+    meaning = gains_of network tree H user;
+    deposited = d;
+    withdrawn = w;
+  }
+
+  -- as many bits as the entry moves
+  moved : (e : Entry) (user d w : ℕ) → deposited H user + bits_in user e ≡ d
+      → withdrawn H user + bits_out user e ≡ w
+      → with_bits user (deposited H user + bits_in user e) (withdrawn H user + bits_out user e)
+      ≡ with_bits user d w
+  moved e user d w ins outs = ap₂ (with_bits user) ins outs
+
   -- bits are paid in by a user
   pub deposit_holding : (user bits : ℕ) → holding_of network tree (H ++ Deposit user bits ∷ []) user ≡ with_deposit bits (holding_of network tree H user)
   deposit_holding user bits =
-      let m = gains_of network tree H user in
       let ins : bits_in user (Deposit user bits) ≡ bits = rw (eq-eqb user user refl) refl in
-      let outs : withdrawn H user + bits_out user (Deposit user bits) ≡ withdrawn H user = omega arith in
       holding_grows network tree H (Deposit user bits) user
-      ∙ ap (λ (n : ℕ). record { meaning = m; deposited = deposited H user + n; withdrawn = withdrawn H user + bits_out user (Deposit user bits) }) ins
-      ∙ ap (λ (w : ℕ). record { meaning = m; deposited = deposited H user + bits; withdrawn = w }) outs
+      ∙ moved (Deposit user bits) user (deposited H user + bits) (withdrawn H user)
+      (ap (λ (n : ℕ). deposited H user + n) ins) (omega arith)
 
   pub deposit_others : (user bits u : ℕ) → (u ≡ user → ⊥) → holding_of network tree (H ++ Deposit user bits ∷ []) u ≡ holding_of network tree H u
   deposit_others user bits u other = holding_same network tree H (Deposit user bits) u refl (rw (ne_eqb user u (λ same. other (sym same))) refl) refl
@@ -42,12 +55,10 @@ module _ (network : List Variable) (tree : GivenTree) (H : List Entry) where
   -- or taken out
   pub withdrawal_holding : (user bits : ℕ) → holding_of network tree (H ++ Withdraw user bits ∷ []) user ≡ with_withdrawal bits (holding_of network tree H user)
   withdrawal_holding user bits =
-      let m = gains_of network tree H user in
       let outs : bits_out user (Withdraw user bits) ≡ bits = rw (eq-eqb user user refl) refl in
-      let ins : deposited H user + bits_in user (Withdraw user bits) ≡ deposited H user = omega arith in
       holding_grows network tree H (Withdraw user bits) user
-      ∙ ap (λ (n : ℕ). record { meaning = m; deposited = deposited H user + bits_in user (Withdraw user bits); withdrawn = withdrawn H user + n }) outs
-      ∙ ap (λ (d : ℕ). record { meaning = m; deposited = d; withdrawn = withdrawn H user + bits }) ins
+      ∙ moved (Withdraw user bits) user (deposited H user) (withdrawn H user + bits) (omega arith)
+      (ap (λ (n : ℕ). withdrawn H user + n) outs)
 
   pub withdrawal_others : (user bits u : ℕ) → (u ≡ user → ⊥) → holding_of network tree (H ++ Withdraw user bits ∷ []) u ≡ holding_of network tree H u
   withdrawal_others user bits u other = holding_same network tree H (Withdraw user bits) u refl refl (rw (ne_eqb user u (λ same. other (sym same))) refl)

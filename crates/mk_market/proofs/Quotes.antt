@@ -1,5 +1,5 @@
 -- A user's last quote is set.
-use Rattle.std.specs.Prelude.{◌≡◌, ℕ, List, [], ◌++◌, ◌⊎◌, map, Option, Some, option_map, slice_get, slice_set}
+use Rattle.std.specs.Prelude.{◌≡◌, ℕ, ◌<◌, List, [], ◌++◌, ◌⊎◌, map, length, Option, Some, option_map, slice_get, slice_set}
 use Rattle.std.proofs.Common.{sym, ap, ap₂, ◌∙◌, subst, inl, inr, append-nil}
 use Rattle.std.proofs.lemmas.List.{map-set}
 use Rattle.mk_net.specs.Network.{Variable}
@@ -10,6 +10,7 @@ use Rattle.mk_file.specs.MarketOf.{market_of}
 use Rattle.mk_engine.specs.Meaning.{Meaning}
 use Rattle.mk_beliefs.specs.Meanings.{weights_of}
 use Rattle.mk_assets.specs.declared.assets.Assets.{Assets}
+use Rattle.mk_assets.specs.Holdings.{Holding, Owns}
 use Rattle.mk_cash.specs.Accounts.{LedgerOf}
 use Rattle.mk_command.specs.declared.command.Command.{Command}
 use Rattle.mk_reply.specs.declared.payments.Payment.{Payment}
@@ -20,14 +21,18 @@ use Rattle.mk_rules.specs.Quotes.{Quoted, Quote, Quotes}
 use Rattle.mk_record.specs.declared.last_quote.LastQuote.{LastQuote}
 use Rattle.mk_record.specs.declared.users.Member.{Member}
 use Rattle.mk_record.specs.Journals.{JournalOf}
-use Rattle.mk_record.specs.Members.{names_of, assets_of, quotes_of}
+use Rattle.mk_record.specs.Members.{names_of, assets_of, quotes_of, with_assets, with_quote}
 use Rattle.mk_market.specs.Trading.{Trading, LeavesOthers, IsAnswered}
 use Rattle.mk_asking.specs.Keeping.{AreHeld, IsKeptQuote, AreKeptQuotes}
 use Rattle.mk_market.specs.inner.Keeping.{quoted, standing_of, IsKept}
-use Rattle.mk_market.proofs.Apart.{each_owns}
-use Rattle.mk_market.proofs.Growing.{kept_by}
-use Rattle.mk_asking.proofs.Lent.{read_set}
-use Rattle.mk_asking.proofs.Quotes.{AreQuoted}
+use Rattle.mk_market.proofs.Apart.{AreApart, each_owns}
+use Rattle.mk_market.proofs.Growing.{kept_by, kept_still}
+use Rattle.mk_asking.specs.Apart.{OwnApart}
+use Rattle.mk_asking.proofs.Apart.{apart_quoted}
+use Rattle.mk_asking.proofs.Lent.{in_range, read_set}
+use Rattle.mk_asking.proofs.Learnt.{holds_still}
+use Rattle.mk_asking.proofs.Owned.{names_same, quotes_same, all_still}
+use Rattle.mk_asking.proofs.Quotes.{AreQuoted, quote_was_set}
 use Rattle.mk_replay.specs.Tills.{TillOf}
 
 -- a market as its callers see it
@@ -101,21 +106,88 @@ module _ {P A Plan : Type 0} (weights_stand : P → Meaning → Type 0) (gains_s
       kept.rows_stand (same_names ∙ kept.named) held
       (subst (AreKeptQuotes file.net file.tree journal.history) (sym same_quotes) kept.quotes_kept)
 
--- so it is beside users who have learnt what is known
-pub kept_learnt : {P A Plan : Type 0} {weights_stand : P → Meaning → Type 0}
+-- a user's quote was set, and nothing of another's changed
+abbrev pub IsSet : {A Plan : Type 0} → (A → Meaning → Type 0) → MarketFile → JournalOf
+    → List (Member A Plan) → List (Member A Plan) → ℕ → LastQuote → Type 0
+IsSet gains_stand file journal members new_members user quote =
+    AreQuoted gains_stand file.net file.tree journal.history members new_members user quote
+    × AreApart user journal.history members new_members
+
+-- a market that is kept says by itself of what it is kept
+module _ {P A Plan : Type 0} {weights_stand : P → Meaning → Type 0}
     {gains_stand : A → Meaning → Type 0} {plan_for : Plan → List Variable → GivenTree → Type 0}
     {file : MarketFile} {prices : P} {rows : A} {plan : Plan} {members : List (Member A Plan)}
     {ledger : LedgerOf} {journal : JournalOf} {payments : Option (List Payment)}
     {till : Option TillOf}
-    {learnt : List (Member A Plan)}
-    → IsKept weights_stand gains_stand plan_for file prices rows plan members ledger journal
-    payments till
-    → names_of learnt ≡ names_of members → quotes_of learnt ≡ quotes_of members
-    → AreHeld gains_stand file.net file.tree journal.history learnt
-    → IsKept weights_stand gains_stand plan_for file prices rows plan learnt ledger journal payments
-    till
-kept_learnt kept same_names same_quotes held =
-    kept_unquoted _ _ _ _ _ _ _ _ _ _ _ _ _ _ kept (λ m stands. stands) same_names same_quotes held
+    (kept : IsKept weights_stand gains_stand plan_for file prices rows plan members ledger journal
+    payments till) where
+  -- it is kept beside engines and users that were asked
+  pub kept_asked : {new_prices : P} {new_members : List (Member A Plan)}
+      → ((m : Meaning) → weights_stand prices m → weights_stand new_prices m)
+      → names_of new_members ≡ names_of members → quotes_of new_members ≡ quotes_of members
+      → AreHeld gains_stand file.net file.tree journal.history new_members
+      → IsKept weights_stand gains_stand plan_for file new_prices rows plan new_members ledger
+      journal payments till
+  kept_asked {new_prices} {new_members} still same_names same_quotes held =
+      kept_unquoted weights_stand gains_stand plan_for file prices new_prices rows plan members
+      new_members ledger journal payments till kept still same_names same_quotes held
+
+  -- so it is beside users who have learnt what is known
+  pub kept_learnt : {learnt : List (Member A Plan)}
+      → names_of learnt ≡ names_of members → quotes_of learnt ≡ quotes_of members
+      → AreHeld gains_stand file.net file.tree journal.history learnt
+      → IsKept weights_stand gains_stand plan_for file prices rows plan learnt ledger journal
+      payments till
+  kept_learnt {learnt} same_names same_quotes held =
+      kept_asked {new_prices = prices} {new_members = learnt} (λ m stands. stands) same_names
+      same_quotes held
+
+  -- and one whose assets were asked
+  pub kept_lent : {new_prices : P} {before now : Assets A Plan} (user : ℕ)
+      → slice_get (assets_of members) user ≡ Some before
+      → ((h : Holding) → Owns gains_stand before h → Owns gains_stand now h)
+      → ((m : Meaning) → weights_stand prices m → weights_stand new_prices m)
+      → IsKept weights_stand gains_stand plan_for file new_prices rows plan
+      (with_assets members user now) ledger journal payments till
+  kept_lent {new_prices} {before} {now} user there still stands_still =
+      kept_still weights_stand gains_stand plan_for file prices new_prices rows plan members
+      (with_assets members user now) ledger journal payments till kept
+      (record {
+        prices_still = stands_still;
+        names_still = names_same members user before now there;
+        quotes_still = quotes_same members user before now there;
+        held_still = all_still members user before now there gains_stand
+            (holds_still gains_stand before now still);
+      })
+
+  -- and beside a user's new quote
+  pub quoted_kept : {new_prices : P} {new_members : List (Member A Plan)} (user : ℕ)
+      (quote : LastQuote) → IsKeptQuote file.net file.tree journal.history user quote
+      → AreQuoted gains_stand file.net file.tree journal.history members new_members user quote
+      → ((m : Meaning) → weights_stand prices m → weights_stand new_prices m)
+      → IsKept weights_stand gains_stand plan_for file new_prices rows plan new_members ledger
+      journal payments till
+  quoted_kept {new_prices} {new_members} user quote is are still =
+      kept_quoted weights_stand gains_stand plan_for file prices new_prices rows plan members
+      new_members ledger journal payments till kept user quote is are still
+
+  -- which was set beside users that were asked
+  pub quote_set : (mid new_members : List (Member A Plan)) (user : ℕ) (quote : LastQuote)
+      → user < length (users journal.history)
+      → names_of mid ≡ names_of members → quotes_of mid ≡ quotes_of members
+      → AreHeld gains_stand file.net file.tree journal.history mid
+      → OwnApart user members mid → new_members ≡ with_quote mid user quote
+      → IsSet gains_stand file journal members new_members user quote
+  quote_set mid new_members user quote within same_names same_quotes held apart set =
+      let are = quote_was_set gains_stand file.net file.tree journal.history members mid new_members
+      user quote same_names same_quotes held
+      (in_range members (users journal.history) user kept.named within) set in (
+        are,
+        record {
+          named = are.names ∙ kept.named;
+          apart = apart_quoted user members mid new_members quote apart set;
+        },
+      )
 
 -- an answer behind users who have learnt what is known, and were quoted the same, is one behind those before
 pub answered_learnt : {A Plan : Type 0} (file : MarketFile) (ledger : LedgerOf) (journal : JournalOf) (members learnt : List (Member A Plan))

@@ -44,14 +44,7 @@ module _ (file : MarketFile) (some_points : 1 ≤ file.points_per_bit) (few_poin
     (some_users : 1 ≤ file.max_users) (few_users : file.max_users ≤ 65536) (some_transfers : 1 ≤ file.max_transfers) (few_transfers : file.max_transfers ≤ 1000000)
     (tree_of_net : ∥ IsTreeOf file.net file.tree ∥₁) (faultless : tree_fault file.net file.tree ≡ None) (no_zeros : file.zeros ≡ false → HasNoZeros file.net) where
   abbrev pub proved_again : MarketFile
-  proved_again = record {
-    net = file.net;
-    tree = file.tree;
-    points_per_bit = file.points_per_bit;
-    max_trades = file.max_trades;
-    max_users = file.max_users;
-    max_transfers = file.max_transfers;
-    zeros = file.zeros;
+  proved_again = record file {
     points_positive = some_points;
     points_most = few_points;
     trades_positive = some_trades;
@@ -67,14 +60,7 @@ module _ (file : MarketFile) (some_points : 1 ≤ file.points_per_bit) (few_poin
 
   -- a file with other proofs of its facts is the same file
   pub same_file : proved_again ≡ file
-  same_file = λ i. record {
-    net = file.net;
-    tree = file.tree;
-    points_per_bit = file.points_per_bit;
-    max_trades = file.max_trades;
-    max_users = file.max_users;
-    max_transfers = file.max_transfers;
-    zeros = file.zeros;
+  same_file = λ i. record file {
     points_positive = le_prop some_points file.points_positive i;
     points_most = le_prop few_points file.points_most i;
     trades_positive = le_prop some_trades file.trades_positive i;
@@ -97,17 +83,7 @@ module _ (file : MarketFile) (some_points : 1 ≤ file.points_per_bit) (few_poin
 
 -- a market with another file
 abbrev pub filed : {P A E Plan : Type 0} → Inside P A E Plan → MarketFile → Inside P A E Plan
-filed inside file = record {
-  file = file;
-  prices = inside.prices;
-  rows = inside.rows;
-  plan = inside.plan;
-  users = inside.users;
-  ledger = inside.ledger;
-  journal = inside.journal;
-  payments = inside.payments;
-  till = inside.till;
-}
+filed inside file = record inside { file = file }
 
 -- so is a market that has it
 pub same_inside : {P A E Plan : Type 0} (inside : Inside P A E Plan) (some_points : 1 ≤ inside.file.points_per_bit) (few_points : inside.file.points_per_bit ≤ 1000000)

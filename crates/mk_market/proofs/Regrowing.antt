@@ -139,9 +139,25 @@ module _ {P A E Plan : Type 0} (weights_stand : P → Meaning → Type 0)
       let net = parts.file.net in let tree = parts.file.tree in
       let back : H ++ Adds a ∷ [] ≡ new_journal.history = sym grown in
       record {
-        legal = are.longer.legal;
-        tree = are.longer.tree;
-        planned = are.planned;
+        beside = record {
+          legal = are.longer.legal;
+          tree = are.longer.tree;
+          planned = are.planned;
+          accounts_kept =
+              subst (λ (K : List Entry). AreAccounts (market_of parts.file) K ledger.accounts) back
+              new_accounts;
+          ledger_room = kept.ledger_room ∙ sym (ap (λ (m : Market). m.max_users) are.longer.market);
+          safe = subst (IsSafe (market_of parts.file)) back new_safe;
+          max_trades = limits.trades ∙ kept.max_trades
+              ∙ sym (ap (λ (m : Market). m.max_trades) are.longer.market);
+          max_users = limits.users ∙ kept.max_users
+              ∙ sym (ap (λ (m : Market). m.max_users) are.longer.market);
+          max_transfers = limits.transfers ∙ kept.max_transfers
+              ∙ sym (ap (λ (m : Market). m.max_transfers) are.longer.market);
+          room = λ open_still. kept.room still_open;
+          till_room = λ open_still. kept.till_room still_open
+              ∙ ap (λ (m : Market). Some (room_for m.max_users)) (sym are.longer.market);
+        };
         prices_stand =
             subst (λ (K : List Entry). weights_stand parts.prices (weights_of net tree K)) back
             (subst (weights_stand parts.prices) (sym (weights_grow net tree H (Adds a)))
@@ -160,20 +176,6 @@ module _ {P A E Plan : Type 0} (weights_stand : P → Meaning → Type 0)
             (kept.quotes_kept u quote
             (subst (λ (qs : List (Option LastQuote)). slice_get qs u ≡ Some (Some quote)) quotes
             at)));
-        accounts_kept =
-            subst (λ (K : List Entry). AreAccounts (market_of parts.file) K ledger.accounts) back
-            new_accounts;
-        ledger_room = kept.ledger_room ∙ sym (ap (λ (m : Market). m.max_users) are.longer.market);
-        safe = subst (IsSafe (market_of parts.file)) back new_safe;
-        max_trades = limits.trades ∙ kept.max_trades
-            ∙ sym (ap (λ (m : Market). m.max_trades) are.longer.market);
-        max_users = limits.users ∙ kept.max_users
-            ∙ sym (ap (λ (m : Market). m.max_users) are.longer.market);
-        max_transfers = limits.transfers ∙ kept.max_transfers
-            ∙ sym (ap (λ (m : Market). m.max_transfers) are.longer.market);
-        room = λ open_still. kept.room still_open;
-        till_room = λ open_still. kept.till_room still_open
-            ∙ ap (λ (m : Market). Some (room_for m.max_users)) (sym are.longer.market);
       }
 
   -- as its callers see it

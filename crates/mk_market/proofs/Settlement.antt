@@ -2,8 +2,8 @@
 use Rattle.std.specs.Prelude.{◌≡◌, ℕ, ◌+◌, ◌*◌, ◌^◌, ◌<◌, zero, suc, ◌&&◌, List, [], ◌∷◌, ◌++◌, map}
 use Rattle.std.specs.Prelude.{filter, sum_by, length, true, false, Option, Some, None, option_map}
 use Rattle.std.specs.Prelude.{slice_get, MatchOption}
-use Rattle.std.specs.List.{AllZip, enumerate_from}
-use Rattle.std.proofs.Common.{inl, inr, refl, sym, ap, ap₂, ◌∙◌, subst, arith, add-zero}
+use Rattle.std.specs.List.{AllByRecursion, AllZip, enumerate_from}
+use Rattle.std.proofs.Common.{inl, inr, refl, sym, ap, ◌∙◌, subst, arith, add-zero}
 use Rattle.std.proofs.lemmas.List.{length_push}
 use Rattle.std.specs.Prelude.{All, option_to_list, ◌≤◌}
 use Rattle.std.proofs.lemmas.Option.{slice_get_within, slice_get-map, get_or_from_slice_get}
@@ -31,7 +31,6 @@ use Rattle.mk_engine.specs.Meaning.{Meaning}
 use Rattle.mk_assets.specs.Holdings.{Holds}
 use Rattle.mk_cash.specs.declared.ledger.Account.{Account}
 use Rattle.mk_cash.specs.Accounts.{account_of, LedgerOf}
-use Rattle.mk_record.specs.declared.last_quote.LastQuote.{LastQuote}
 use Rattle.mk_command.specs.declared.command.Command.TheVariants.{Settle}
 use Rattle.mk_reply.specs.declared.payments.Payment.{Payment}
 use Rattle.mk_reply.specs.declared.refusal.Refusal.{Refusal}
@@ -39,6 +38,7 @@ use Rattle.mk_reply.specs.declared.reply.Reply.{Reply}
 use Rattle.mk_reply.specs.declared.reply.Reply.TheVariants.{Settled, Refused}
 use Rattle.mk_rules.specs.Answers.{IsPayment, IsSettlement, IsSettling, settled_by_rule, ends_of}
 use Rattle.mk_rules.specs.Answers.{IsAnswer, entry_of}
+use Rattle.mk_rules.specs.Bounded.{FitPayment}
 use Rattle.mk_rules.specs.Refusals.{first_refusal, refusals}
 use Rattle.mk_rules.proofs.Unrefused.{none_applies, not_faulted, all_resolved}
 use Rattle.mk_restore.specs.Restoring.{IsSettledAt}
@@ -49,16 +49,15 @@ use Rattle.mk_replay.specs.Tills.{TillOf}
 use Rattle.mk_rules.specs.Transcript.{OfCommand, after}
 use Rattle.mk_record.specs.declared.users.Member.{Member}
 use Rattle.mk_record.specs.Journals.{JournalOf}
-use Rattle.mk_record.specs.Members.{names_of, quotes_of}
+use Rattle.mk_record.specs.Members.{quotes_of}
 use Rattle.mk_market.specs.Points.{IsPaidOff, AreAccounts, ArePaidBy, SettlementPaysOff}
 use Rattle.mk_record.specs.Refused.{CanBeSettled}
-use Rattle.mk_asking.specs.Keeping.{AreHeld, TakesAsMuch}
 use Rattle.mk_market.specs.inner.Keeping.{quoted, standing_of, IsKept}
-use Rattle.mk_settling.specs.Paying.{ArePaid}
+use Rattle.mk_settling.specs.Paying.{ArePaid, CanBeEntered, IsEntered}
 use Rattle.mk_record.proofs.Appends.{there, not_found}
 use Rattle.mk_market.proofs.Growing.{kept_grown}
+use Rattle.mk_answers.proofs.Told.{cash_for}
 use Rattle.mk_asking.proofs.Owned.{holding_same}
-use Rattle.mk_market.proofs.Weaker.{cash_when}
 
 settled_now : (H : List Entry) (paid : List (ℕ × ℕ)) → is_settled (H ++ Settles paid ∷ []) ≡ false → ⊥
 settled_now H paid h = let yes : true ≡ false = sym (there H (Settles paid) is_settlement refl) ∙ h in cc yes
@@ -106,11 +105,10 @@ module _ (market : Market) (H : List Entry) (all : List (ℕ × ℕ)) (state : L
         (subst (λ (q : Fraction). CoversCash (IsSmall market.network (H ++ Settles all ∷ []))
         (HoldsNoTrade (H ++ Settles all ∷ []) u) (sharpness market.max_trades) q market.points_per_bit payment.low payment.high)
         (sym (factor_kept H (Settles all) u state (trades_of_kept H (Settles all) u refl) refl refl))
-        (cash_when (IsSmall market.network (H ++ Settles all ∷ []))
-        (IsSmall market.network H) (HoldsNoTrade (H ++ Settles all ∷ []) u)
-        (HoldsNoTrade H u)
-        (small_before market.network H all) (idle_before H all u) (factor H u state) (sharpness market.max_trades)
-        market.points_per_bit payment.low payment.high is.covers));
+        (cash_for (IsSmall market.network (H ++ Settles all ∷ []))
+        (HoldsNoTrade (H ++ Settles all ∷ []) u) (IsSmall market.network H) (HoldsNoTrade H u)
+        (sharpness market.max_trades) (factor H u state) market.points_per_bit payment.low payment.high
+        (small_before market.network H all) (idle_before H all u) is.covers));
   }
 
 -- so each user is, where a settlement is entered that is one
@@ -174,41 +172,57 @@ pub unpaid_before : (market : Market) (H : List Entry) (accounts : List Account)
     → AreAccounts market H accounts → (u : ℕ) → u < length accounts → (account_of accounts u).paid ≡ 0
 unpaid_before market H accounts before are u within = (are.each u within).paid_to.0 ∙ nothing_before H u before
 
-module _ {P A Plan : Type 0} (weights_stand : P → Meaning → Type 0) (gains_stand : A → Meaning → Type 0) (plan_for : Plan → List Variable → GivenTree → Type 0)
-    (file : MarketFile) (prices : P) (rows : A) (plan : Plan) (members : List (Member A Plan)) (ledger : LedgerOf) (journal : JournalOf)
-    (payments : Option (List Payment)) (till : Option TillOf)
+-- payments to each user, which can be printed, can be entered
+pub enters : (file : MarketFile) (H : List Entry) (accounts : List Account)
+    → IsSafe (market_of file) H → AreAccounts (market_of file) H accounts
+    → CanBeSettled file.net H → (paid : List (ℕ × ℕ)) → length paid ≡ length (users H)
+    → AllByRecursion FitPayment paid → CanBeEntered H accounts paid
+enters file H accounts safe are can paid count fit = record {
+  unsettled = can.unsettled;
+  one_each = count ∙ sym are.one_each;
+  few = omega (arith, count, safe.bounded.few_users, safe.legal.few_users);
+  unpaid = unpaid_before (market_of file) H accounts can.unsettled are;
+  fit = fit;
+}
+
+-- so the market is settled
+module _ {P A Plan : Type 0} {weights_stand : P → Meaning → Type 0} {gains_stand : A → Meaning → Type 0} {plan_for : Plan → List Variable → GivenTree → Type 0}
+    {file : MarketFile} {prices : P} {rows : A} {plan : Plan} {members : List (Member A Plan)} {ledger : LedgerOf} {journal : JournalOf}
+    {payments : Option (List Payment)} {till : Option TillOf}
     (kept : IsKept weights_stand gains_stand plan_for file prices rows plan members ledger journal payments till)
     (can : CanBeSettled file.net journal.history) (none : None ≡ first_refusal (market_of file) journal.history Settle)
-    (reply : Reply) (paid : List (ℕ × ℕ)) (appends : entry_of (market_of file) journal.history Settle reply ≡ Some (Settles paid))
-    (new_members : List (Member A Plan)) (new_journal : JournalOf) (history : new_journal.history ≡ journal.history ++ Settles paid ∷ [])
-    (same_quotes : quotes_of new_members ≡ quotes_of members) where
-  pub settlement_next : standing_of new_journal new_members ≡ after (market_of file) (standing_of journal members) (OfCommand Settle) reply
-  settlement_next = ap₂ (λ (H : List Entry) (qs : List (Option LastQuote)). record { history = H; quotes = map (option_map quoted) qs })
-      (history ∙ sym (ap (λ (o : Option Entry). journal.history ++ option_to_list o) appends)) same_quotes
+    {paid all : List (ℕ × ℕ)} (are : paid ≡ all) {new_ledger : LedgerOf} {new_journal : JournalOf}
+    (is : IsEntered ledger new_ledger journal new_journal paid) (reply : Reply)
+    (appends : entry_of (market_of file) journal.history Settle reply ≡ Some (Settles all)) where
+  settled : new_journal.history ≡ journal.history ++ Settles all ∷ []
+  settled = is.history ∙ ap (λ (ps : List (ℕ × ℕ)). journal.history ++ Settles ps ∷ []) are
 
-  -- the market is kept
+  pub settlement_next : standing_of new_journal members ≡ after (market_of file) (standing_of journal members) (OfCommand Settle) reply
+  settlement_next = ap (λ (H : List Entry). record { history = H; quotes = map (option_map quoted) (quotes_of members) })
+      (settled ∙ sym (ap (λ (o : Option Entry). journal.history ++ option_to_list o) appends))
+
+  -- and kept
   pub settlement_kept : IsSettledAt (market_of file) journal.history reply → HasUnits reply
-      → (new_ledger : LedgerOf) (left : Option (List Payment)) (till_left : Option TillOf) → TakesAsMuch journal new_journal → names_of new_members ≡ names_of members
-      → AreHeld gains_stand file.net file.tree journal.history new_members
-      → ArePaid ledger.accounts new_ledger.accounts paid → new_ledger.room ≡ ledger.room
-      → IsKept weights_stand gains_stand plan_for file prices rows plan new_members new_ledger new_journal left till_left
-  settlement_kept agrees units new_ledger left till_left limits names held entered same_room =
+      → (left : Option (List Payment)) (till_left : Option TillOf)
+      → IsKept weights_stand gains_stand plan_for file prices rows plan members new_ledger new_journal left till_left
+  settlement_kept agrees units left till_left =
       let H = journal.history in
-      let e = Settles paid in
-      kept_grown weights_stand gains_stand plan_for file prices prices rows rows plan members new_members ledger new_ledger journal new_journal payments left till till_left
+      let e = Settles all in
+      kept_grown weights_stand gains_stand plan_for file prices prices rows rows plan members members ledger new_ledger journal new_journal payments left till till_left
       e Settle reply tt tt units kept (record { unrefused = sym none; agrees = agrees }) settlement_next
       (record {
-        history = history;
-        limits = limits;
+        history = settled;
+        limits = record { trades = is.trades; users = is.users; transfers = is.transfers };
         prices_grown = λ m stands. stands;
         rows_grown = λ m stands. stands;
-        names = names ∙ kept.named ∙ sym (not_found H e join_in refl);
-        held = λ u assets at. subst (Holds gains_stand assets) (sym (holding_same file.net file.tree H e u refl refl refl)) (held u assets at);
-        none_quoted = λ u quote at. subst (λ (qs : List (Option LastQuote)). slice_get qs u ≡ Some (Some quote)) same_quotes at;
-        accounts = accounts_settled (market_of file) H ledger.accounts new_ledger.accounts paid can.unsettled kept.accounts_kept entered;
-        ledger_room = same_room ∙ kept.ledger_room;
-        room = λ unsettled. absurd (settled_now H paid unsettled);
-        till_room = λ unsettled. absurd (settled_now H paid unsettled);
+        names = kept.named ∙ sym (not_found H e join_in refl);
+        held = λ u assets at. subst (Holds gains_stand assets) (sym (holding_same file.net file.tree H e u refl refl refl)) (kept.held u assets at);
+        none_quoted = λ u quote at. at;
+        accounts = accounts_settled (market_of file) H ledger.accounts new_ledger.accounts all can.unsettled kept.accounts_kept
+            (subst (ArePaid ledger.accounts new_ledger.accounts) are is.paid_each);
+        ledger_room = is.room ∙ kept.ledger_room;
+        room = λ unsettled. absurd (settled_now H all unsettled);
+        till_room = λ unsettled. absurd (settled_now H all unsettled);
       })
 
 -- the revision behind a settlement

@@ -1,17 +1,17 @@
 -- A user is quoted bounds, or a spread is judged by them.
-use Rattle.std.specs.Prelude.{◌≡◌, ℕ, ◌+◌, ◌==◌, List, [], ◌∷◌, ◌++◌, Bool, true, false}
-use Rattle.std.specs.Prelude.{if◌then◌else◌, length, map, All, Option, Some, None, option_map}
+use Rattle.std.specs.Prelude.{◌≡◌, ℕ, ◌+◌, ◌==◌, List, [], ◌∷◌, ◌++◌}
+use Rattle.std.specs.Prelude.{length, map, All, Option, Some, None, option_map}
 use Rattle.std.specs.Prelude.{option_and_then, option_to_list, MatchOption, IsSomeAnd, Result, Ok}
-use Rattle.std.specs.Prelude.{Err, IsErrAnd, ⊤, slice_get, slice_set}
+use Rattle.std.specs.Prelude.{Err, IsErrAnd, slice_get, slice_set}
 use Rattle.std.proofs.Common.{refl, sym, ap, ap₂, ◌∙◌, subst, inl, inr}
 use Rattle.std.proofs.lemmas.Bool.{eqb-true}
 use Rattle.std.proofs.lemmas.List.{length_push}
 use Rattle.std.proofs.lemmas.List.Elements.{All-from_recursion, recursion_from_All}
-use Rattle.std.proofs.lemmas.Option.{slice_get-map}
 use Rattle.arrayvec.specs.ArrayVec.{ArrayVec}
 use Rattle.mk_net.specs.declared.words.PairText.{PairText}
 use Rattle.mk_net.specs.Network.{Variable}
 use Rattle.mk_net.specs.Asked.{IsUnits}
+use Rattle.mk_net.specs.Firsts.{first_of}
 use Rattle.mk_exact.specs.History.{Entry, Trade, users, revision}
 use Rattle.mk_states.specs.OfNetwork.{IsRatioOf}
 use Rattle.mk_states.proofs.Sums.{each_weaker}
@@ -37,7 +37,7 @@ use Rattle.mk_reply.specs.declared.reply.Reply.TheVariants.{Bounded, Spreaded, R
 use Rattle.mk_reply.specs.Refusals.{given_in}
 use Rattle.mk_rules.specs.Answers.{IsBounds, IsSpreadTrade, IsOutside as PrintsOutside}
 use Rattle.mk_rules.specs.Answers.{IsSpreadJudged, IsSpreadJudgedAfresh, with_bounds, with_quote}
-use Rattle.mk_rules.specs.Refusals.{spread_named, user_number, first_refusal}
+use Rattle.mk_rules.specs.Refusals.{spread_named, user_number, first_refusal, refusals_by_record}
 use Rattle.mk_rules.specs.Quotes as rules
 use Rattle.mk_rules.specs.Transcript.{OfCommand, IsAllowedFor, after}
 use Rattle.mk_rules.proofs.Ready.{spread_refused}
@@ -57,6 +57,7 @@ use Rattle.mk_asking.specs.Quoting.{IsSpreadQuoteOf, IsOutside}
 use Rattle.mk_market.proofs.Apart.{EachOwns, AreApart, left_alone, each_owns}
 use Rattle.mk_market.proofs.Apart.{each_owns_then, others_left}
 use Rattle.mk_market.proofs.Growing.{is_open}
+use Rattle.mk_market.proofs.Judged.{TheSame, in_quote, in_other, judged_by}
 use Rattle.mk_market.proofs.Quotes.{trading, quote_said, standing_quoted}
 use Rattle.mk_market.proofs.Replies.{answer_allowed, refusal_allowed, none_appended, nothing_added}
 use Rattle.mk_reply.specs.Replies.{IsRatio}
@@ -99,6 +100,14 @@ pub question_for : (file : MarketFile) (H : List Entry) (v : List ℕ) (words : 
     → IsSpreadQuestionFor (market_of file) file.tree H v words spread → IsSpreadQuestionFor (market_of file) file.tree H v condition.items spread
 question_for file H v words condition spread same is = subst (λ (pairs : List PairText). IsSpreadQuestionFor (market_of file) file.tree H v pairs spread) same is
 
+-- a spread in words is this one in numbers, and the record refuses it nothing
+pub record IsSpreadFound (file : MarketFile) (H : List Entry) (name v : List ℕ)
+    (condition : ArrayVec PairText) (to : ArrayVec ℕ) (seen : Option ℕ) (spread : SpreadAsked) :
+    Type 0 where
+  pub question : IsSpreadQuestionFor (market_of file) file.tree H v condition.items spread
+  pub unrefused : None ≡ first_of (refusals_by_record (market_of file) H
+      (Spread name v condition to seen))
+
 -- ---- a quote
 
 module _ (network : List Variable) (tree : GivenTree) (H : List Entry) (u : ℕ) (spread : SpreadAsked) (quote : SpreadQuote) (is : IsSpreadQuoteOf network tree H u spread quote) where
@@ -108,55 +117,22 @@ module _ (network : List Variable) (tree : GivenTree) (H : List Entry) (u : ℕ)
 
 -- ---- bounds in the standing
 
--- the bounds that the rules find in a user's last quote
-current_in : Option (Option LastQuote) → SpreadAsked → ℕ → Option Intervals
-current_in o spread now = rules.current_bounds (option_and_then (λ held. held) (option_map (option_map quoted) o)) spread now
-
--- are those of the quote that judges
-module _ (spread : SpreadAsked) (now : ℕ) (quote : SpreadQuote) where
-  TheSame : Option Intervals → Type 0
-  TheSame o = MatchOption o ⊤ (λ (intervals : Intervals). intervals ≡ intervals_of quote)
-
-  in_question : (held : SpreadQuote) (b : Bool) → (b ≡ true → held ≡ quote) → TheSame (if b then Some (intervals_of held) else None)
-  unfolding TheSame
-  in_question held false h = tt
-  in_question held true h = ap intervals_of (h refl)
-
-  in_quote : (held : SpreadQuote) (b : Bool) → (b ≡ true → IsSpreadFor held spread now → quote ≡ held) → (b ≡ true → revision_of held ≡ now)
-      → TheSame (if b then rules.bounds_in (rules.SpreadBounds (question_of held) (intervals_of held)) spread else None)
-  unfolding TheSame
-  in_quote held false h at = tt
-  in_quote held true h at =
-      in_question held (rules.same_spread (question_of held) spread)
-      (λ same. sym (h refl (record { same_question = same_spread_is (question_of held) spread same; same_revision = at refl })))
-
-  -- limits of an edit hold none
-  none_in : (b : Bool) → TheSame (if b then None else None)
-  unfolding TheSame
-  none_in false = tt
-  none_in true = tt
-
-  current_is : (o : Option (Option LastQuote)) → ((held : SpreadQuote) → o ≡ Some (Some (LastBounds held)) → IsSpreadFor held spread now → quote ≡ held) → TheSame (current_in o spread now)
-  unfolding TheSame current_in
-  current_is None h = tt
-  current_is (Some None) h = tt
-  current_is (Some (Some (LastLimits held))) h = none_in _
-  current_is (Some (Some (LastBounds held))) h = in_quote held (revision_of held == now) (λ same for. h held refl for) (λ same. eqb-true (revision_of held) now same)
-
--- a spread is judged by a quote: by its bounds, where the user was quoted them
-judged_by : {A Plan : Type 0} (members : List (Member A Plan)) (user : ℕ) (spread : SpreadAsked) (now : ℕ) (quote : SpreadQuote)
-    → ((held : SpreadQuote) → slice_get (quotes_of members) user ≡ Some (Some (LastBounds held)) → IsSpreadFor held spread now → quote ≡ held)
-    → (Afresh : Type 0) (By : Intervals → Type 0) → Afresh → By (intervals_of quote)
-    → MatchOption (rules.current_bounds (rules.last_quote (map (option_map quoted) (quotes_of members)) user) spread now) Afresh By
-unfolding current_in TheSame
-judged_by members user spread now quote last Afresh By afresh by =
-    subst (λ (o : Option (Option rules.Quote)). MatchOption (rules.current_bounds (option_and_then (λ held. held) o) spread now) Afresh By)
-    (sym (slice_get-map (option_map quoted) (quotes_of members) user))
-    (at (current_in (slice_get (quotes_of members) user) spread now) (current_is spread now quote (slice_get (quotes_of members) user) last))
-  where
-    at : (o : Option Intervals) → MatchOption o ⊤ (λ (intervals : Intervals). intervals ≡ intervals_of quote) → MatchOption o Afresh By
-    at None h = afresh
-    at (Some intervals) h = subst By (sym h) by
+-- the bounds that the rules find in a user's last quote are those of the quote that judges
+current_is : (spread : SpreadAsked) (now : ℕ) (quote : SpreadQuote) (o : Option (Option LastQuote))
+    → ((held : SpreadQuote) → o ≡ Some (Some (LastBounds held)) → IsSpreadFor held spread now
+    → quote ≡ held)
+    → TheSame intervals_of quote (rules.current_bounds
+    (option_and_then (λ held. held) (option_map (option_map quoted) o)) spread now)
+current_is spread now quote None h = tt
+current_is spread now quote (Some None) h = tt
+current_is spread now quote (Some (Some (LastLimits held))) h = in_other intervals_of quote _
+current_is spread now quote (Some (Some (LastBounds held))) h =
+    in_quote intervals_of quote held (rules.same_spread (question_of held) spread)
+    (revision_of held == now)
+    (λ same at. h held refl (record {
+      same_question = same_spread_is (question_of held) spread same;
+      same_revision = eqb-true (revision_of held) now at;
+    }))
 
 -- a spread that no refusal of the table meets is answered as the quote judges it
 module _ {A Plan : Type 0} (file : MarketFile) (journal : JournalOf) (members : List (Member A Plan)) (name : List ℕ) (user : ℕ) (is_user : IsUser journal.history name user)
@@ -176,7 +152,11 @@ module _ {A Plan : Type 0} (file : MarketFile) (journal : JournalOf) (members : 
       (subst (λ (n : ℕ). MatchOption (rules.current_bounds (rules.last_quote quotes n) spread (revision H))
       (IsSpreadJudgedAfresh file.net H n spread to.items reply) (λ intervals. IsSpreadJudged file.net H n spread to.items intervals reply))
       is_user.number
-      (judged_by members user spread (revision H) quote last (IsSpreadJudgedAfresh file.net H user spread to.items reply)
+      (judged_by intervals_of quote (λ (held : SpreadQuote). LastBounds held)
+      (λ (o : Option rules.Quote). rules.current_bounds o spread (revision H))
+      (λ (held : SpreadQuote). IsSpreadFor held spread (revision H))
+      (current_is spread (revision H) quote) members user last
+      (IsSpreadJudgedAfresh file.net H user spread to.items reply)
       (λ intervals. IsSpreadJudged file.net H user spread to.items intervals reply) afresh by)))
 
 -- ---- the market
@@ -252,6 +232,14 @@ module _ {P A Plan : Type 0} (weights_stand : P → Meaning → Type 0) (gains_s
 
 -- ---- a trade
 
+-- factors of which there is one for each value, and which are units of a ratio of the network
+pub record AreFactors (network : List Variable) (spread : SpreadAsked) (factors : List ℕ) : Type 0
+  where
+    pub of_values : AreOfValues factors
+    pub units : All IsUnits factors
+    pub ratios : All IsRatio factors
+    pub ratio : IsRatioOf network (spread_ratio spread factors)
+
 module _ (file : MarketFile) (journal : JournalOf) (open_for : IsOpen file.net file.tree journal.history) (name : List ℕ) (user : ℕ) (is_user : IsUser journal.history name user)
     (v : List ℕ) (condition : ArrayVec PairText) (spread : SpreadAsked)
     (is_question : IsSpreadQuestionFor (market_of file) file.tree journal.history v condition.items spread) (quote : SpreadQuote)
@@ -259,18 +247,21 @@ module _ (file : MarketFile) (journal : JournalOf) (open_for : IsOpen file.net f
   list : IsFairList file.net journal.history user spread to.items factors.items
   list = fair_list file.net file.tree journal.history user spread quote is open_for to.items factors.items fair
 
-  -- there are units for each value
-  pub of_values : AreOfValues factors.items × All IsUnits factors.items
-  of_values = fair_list_fits file.net journal.history user spread to.items factors.items list open_for.legal is_question.answered.in_order.in_range.variable
-
-  -- the ratio is the network's
-  pub ratio_is : IsRatioOf file.net (spread_ratio spread factors.items)
-  ratio_is = fair_list_is_ratio file.net journal.history user spread to.items factors.items list is_question.answered.in_order.in_range
-
-  pub spread_has_units : All IsRatio factors.items
-  spread_has_units = All-from_recursion IsRatio factors.items
-      (each_weaker IsUnits IsRatio (λ n is. record { positive = is.positive; below = is.fits })
-      factors.items (recursion_from_All IsUnits factors.items of_values.1))
+  -- the factors fit
+  pub factors_fit : AreFactors file.net spread factors.items
+  factors_fit =
+      let fits = fair_list_fits file.net journal.history user spread to.items factors.items list
+      open_for.legal is_question.answered.in_order.in_range.variable in
+      record {
+        of_values = fits.0;
+        units = fits.1;
+        ratios = All-from_recursion IsRatio factors.items
+            (each_weaker IsUnits IsRatio (λ n is. record
+            { positive = is.positive; below = is.fits })
+            factors.items (recursion_from_All IsUnits factors.items fits.1));
+        ratio = fair_list_is_ratio file.net journal.history user spread to.items factors.items list
+            is_question.answered.in_order.in_range;
+      }
 
   module _ {A Plan : Type 0} (members new_members : List (Member A Plan)) (new_journal : JournalOf) (seen : Option ℕ)
       (none : None ≡ first_refusal (market_of file) journal.history (Spread name v condition to seen)) (inside : InsideEach (intervals_of quote) to.items)

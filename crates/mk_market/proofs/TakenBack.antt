@@ -1,5 +1,5 @@
 -- Changes that are taken back, and those that are not.
-use Rattle.std.specs.Prelude.{◌≡◌, Result, Ok, Err, Some, None, IsErrAnd}
+use Rattle.std.specs.Prelude.{◌≡◌, Bool, true, false, Result, Ok, Err, Some, None, IsErrAnd}
 use Rattle.std.proofs.Common.{refl, sym, subst, ◌∙◌}
 use Rattle.mk_net.specs.Firsts.{first_of}
 use Rattle.mk_command.specs.declared.command.Command.{Command}
@@ -17,6 +17,14 @@ use Rattle.mk_market.specs.inner.Restored.{IsLeft, IsTakenBack, IsFoundAgain, Is
 pub left_by_reply : {Own : Type 0} → (now : Trading Own) (command : Command) (reply : Reply)
     → (Agrees now.market now.standing.history command reply → ⊥) → IsLeft now now command reply
 left_by_reply now command reply other = record { same = refl; unfit = λ fit. other fit.agrees }
+
+-- so is one whose reply the journal does not tell
+pub left_untold : {Own : Type 0} → (now : Trading Own) (command : Command) (reply : Reply)
+    {tells : Bool} → (Agrees now.market now.standing.history command reply → tells ≡ true)
+    → tells ≡ false → IsLeft now now command reply
+left_untold now command reply told untold =
+    left_by_reply now command reply (λ agrees. let yes = told agrees in
+    let no = untold in absurd (cc))
 
 pub left_by_refusal : {Own : Type 0} → (now : Trading Own) (command : Command) (reply : Reply)
     (why : Refusal)

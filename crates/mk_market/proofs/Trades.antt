@@ -1,10 +1,10 @@
 -- A market in which a user trades.
 use Rattle.std.specs.Prelude.{◌≡◌, ℕ, ◌<◌, List, [], ◌∷◌, ◌++◌, length, false, Option, Some}
 use Rattle.std.specs.Prelude.{slice_get}
-use Rattle.std.proofs.Common.{refl, sym, ◌∙◌, subst, arith}
+use Rattle.std.proofs.Common.{refl, sym, ap, ◌∙◌, subst, arith}
 use Rattle.mk_net.specs.Network.{Variable}
 use Rattle.mk_net.specs.Asked.{TradeRatio, ratio_pairs}
-use Rattle.mk_exact.specs.History.{Trade, join_in, users, trades, is_settlement, is_settled}
+use Rattle.mk_exact.specs.History.{Entry, Trade, join_in, users, trades, is_settlement, is_settled}
 use Rattle.mk_states.specs.OfNetwork.{IsRatioOf}
 use Rattle.mk_tree.specs.Given.{GivenTree, home}
 use Rattle.mk_file.specs.declared.market_file.MarketFile.{MarketFile}
@@ -31,6 +31,11 @@ use Rattle.mk_record.proofs.Appends.{not_there, not_found}
 use Rattle.mk_market.proofs.Growing.{is_open, kept_grown}
 use Rattle.mk_asking.proofs.Lent.{in_range}
 use Rattle.mk_replay.specs.Tills.{TillOf}
+
+-- the entry of a trade is that of the ratio that its own is
+pub traded_by : (H : List Entry) (user : ℕ) {later : List Entry} {own its : TradeRatio}
+    → later ≡ H ++ Trade user own ∷ [] → own ≡ its → later ≡ H ++ Trade user its ∷ []
+traded_by H user history same = history ∙ ap (λ (r : TradeRatio). H ++ Trade user r ∷ []) same
 
 module _ {P A Plan : Type 0} (weights_stand : P → Meaning → Type 0) (gains_stand : A → Meaning → Type 0) (plan_for : Plan → List Variable → GivenTree → Type 0)
     (file : MarketFile) (prices : P) (rows : A) (plan : Plan) (members : List (Member A Plan)) (ledger : LedgerOf) (journal : JournalOf)

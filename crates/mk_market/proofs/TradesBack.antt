@@ -19,12 +19,13 @@ use Rattle.mk_spread.specs.Spreads.{SpreadAsked, spread_ratio}
 use Rattle.mk_cash.specs.declared.ledger.Account.{Account}
 use Rattle.mk_file.specs.declared.market_file.MarketFile.{MarketFile}
 use Rattle.mk_file.specs.MarketOf.{market_of}
+use Rattle.mk_command.specs.declared.command.Command.{Command}
 use Rattle.mk_command.specs.declared.command.Command.TheVariants.{Edit, Spread}
 use Rattle.mk_reply.specs.declared.reply.Reply.{Reply}
 use Rattle.mk_reply.specs.declared.reply.Reply.TheVariants.{Traded, Spreaded}
 use Rattle.mk_reply.specs.Replies.{IsReply, IsRatio}
 use Rattle.mk_rules.specs.Refusals.{refusals_by_record, question_named, spread_named}
-use Rattle.mk_rules.specs.Transcript.{OfCommand, after}
+use Rattle.mk_rules.specs.Transcript.{Standing, OfCommand, after}
 use Rattle.mk_restore.specs.Restoring.{IsFit}
 use Rattle.mk_restore.proofs.Safe.{HasUnits}
 use Rattle.mk_record.specs.declared.last_quote.LastQuote.{LastQuote}
@@ -36,8 +37,21 @@ use Rattle.mk_market.specs.Points.{ArePaidBy}
 use Rattle.mk_market.specs.inner.Keeping.{quoted, standing_of}
 use Rattle.mk_market.proofs.Replies.{unsettled_first}
 
+-- what a history and the last quotes leave
+abbrev stands : List Entry → List (Option LastQuote) → Standing
+stands H quotes = record { history = H; quotes = map (option_map quoted) quotes }
+
 module _ (file : MarketFile) (journal : JournalOf) (name : List ℕ) (user : ℕ)
     (is_user : IsUser journal.history name user) where
+  -- a journal with one entry more, and as many quotes, stands as a reply to a command has it
+  abbrev pub GoesOn : {A Plan : Type 0} → Entry → Command → Reply → List (Member A Plan)
+      → List (Member A Plan) → JournalOf → Type 0
+  GoesOn entry command reply members new_members new_journal =
+      new_journal.history ≡ journal.history ++ entry ∷ []
+      → quotes_of new_members ≡ quotes_of members
+      → standing_of new_journal new_members ≡ after (market_of file)
+      (standing_of journal members) (OfCommand command) reply
+
   module _ (q : QuestionText) (asked : Asked)
       (is_question : IsQuestionFor (market_of file) file.tree journal.history q asked) (X : ℕ)
       (seen : Option ℕ) (none : None ≡ first_of
@@ -64,15 +78,10 @@ module _ (file : MarketFile) (journal : JournalOf) (name : List ℕ) (user : ℕ
 
     pub edit_next : {A Plan : Type 0} (members new_members : List (Member A Plan))
         (new_journal : JournalOf)
-        → new_journal.history ≡ journal.history ++ Trade user
-        (ratio_in file.net asked hit miss) ∷ []
-        → quotes_of new_members ≡ quotes_of members
-        → standing_of new_journal new_members ≡ after (market_of file)
-        (standing_of journal members) (OfCommand (Edit name q X seen)) reply
+        → GoesOn (Trade user (ratio_in file.net asked hit miss)) (Edit name q X seen) reply
+        members new_members new_journal
     edit_next members new_members new_journal history same_quotes =
-        ap₂ (λ (H : List Entry) (qs : List (Option LastQuote)). record
-        { history = H; quotes = map (option_map quoted) qs })
-        (history
+        ap₂ stands (history
         ∙ ap (λ (o : Option Asked). journal.history ++ option_to_list (option_map
         (λ (a : Asked). Trade user (ratio_in file.net a hit miss)) o)) (sym is_question.named)
         ∙ ap (λ (n : ℕ). journal.history ++ option_to_list (option_map
@@ -134,15 +143,10 @@ module _ (file : MarketFile) (journal : JournalOf) (name : List ℕ) (user : ℕ
 
     pub spread_next : {A Plan : Type 0} (members new_members : List (Member A Plan))
         (new_journal : JournalOf)
-        → new_journal.history ≡ journal.history ++ Trade user
-        (spread_ratio spread factors.items) ∷ []
-        → quotes_of new_members ≡ quotes_of members
-        → standing_of new_journal new_members ≡ after (market_of file)
-        (standing_of journal members) (OfCommand (Spread name v condition to seen)) reply
+        → GoesOn (Trade user (spread_ratio spread factors.items))
+        (Spread name v condition to seen) reply members new_members new_journal
     spread_next members new_members new_journal history same_quotes =
-        ap₂ (λ (H : List Entry) (qs : List (Option LastQuote)). record
-        { history = H; quotes = map (option_map quoted) qs })
-        (history
+        ap₂ stands (history
         ∙ ap (λ (o : Option SpreadAsked). journal.history ++ option_to_list (option_map
         (λ (s : SpreadAsked). Trade user (spread_ratio s factors.items)) o))
         (sym is_question.named)

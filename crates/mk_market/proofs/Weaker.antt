@@ -3,23 +3,10 @@
 use Rattle.std.specs.Prelude.{ℕ}
 use Rattle.std.proofs.Common.{inl, inr, ⊎_elim}
 use Rattle.mk_exact.specs.Accepted.{IsMost}
-use Rattle.mk_exact.specs.Cash.{CoversCash}
 use Rattle.mk_exact.specs.Factors.{Fraction}
 
 module _ (small exact idle one : Type 0) (small_is : small → exact) (idle_is : idle
     → one) (q : Fraction) where
-  pub cash_when : (near points low high : ℕ) → CoversCash exact one near q points low high
-      → CoversCash small idle near q points low high
-  cash_when near points low high covers = record {
-    cash = covers.cash;
-    is_cash = covers.is_cash;
-    above = covers.above;
-    below = covers.below;
-    near = covers.near;
-    nearer = λ s. covers.nearer (small_is s);
-    exact = λ i. covers.exact (idle_is i);
-  }
-
   pub most_when : (near bits : ℕ) → IsMost exact one near q bits → IsMost small idle near q bits
   most_when near bits most = record {
     within = most.within;

@@ -1,13 +1,11 @@
 -- Bits are taken out.
 use Rattle.std.specs.Prelude.{◌≡◌, ℕ, ◌+◌, ◌*◌, ◌<◌, ◌≤◌, List, [], ◌∷◌, ◌++◌, map, length, Option}
 use Rattle.std.specs.Prelude.{Some, None, option_map, IsSomeAnd, slice_get, slice_set}
-use Rattle.std.proofs.Common.{refl, sym, ap, ap₂, inl, inr, ◌∙◌, subst, arith}
-use Rattle.std.proofs.Math.Nat.{mul-le-mul}
+use Rattle.std.proofs.Common.{refl, sym, ap, inl, inr, ◌∙◌, subst, arith}
 use Rattle.std.proofs.lemmas.List.{length_push}
 use Rattle.mk_net.specs.Network.{Variable}
 use Rattle.mk_net.specs.Bounds.{number_limit, sharpness}
 use Rattle.mk_exact.specs.History.{Entry, Withdraw as Withdraws, users, trades, withdrawn, revision}
-use Rattle.mk_exact.specs.History.{is_settlement}
 use Rattle.mk_tree.specs.Given.{GivenTree}
 use Rattle.mk_file.specs.declared.market_file.MarketFile.{MarketFile}
 use Rattle.mk_file.specs.MarketOf.{market_of}
@@ -33,24 +31,23 @@ use Rattle.mk_reply.specs.declared.payments.Payment.{Payment}
 use Rattle.mk_reply.specs.declared.reply.Reply.{Reply}
 use Rattle.mk_reply.specs.declared.reply.Reply.TheVariants.{Withdrawn, Refused}
 use Rattle.mk_rules.specs.Refusals.{first_refusal}
-use Rattle.mk_restore.specs.Restoring.{IsFit}
 use Rattle.mk_rules.specs.Transcript.{OfCommand, IsAllowedFor, after}
 use Rattle.mk_record.specs.declared.users.Member.{Member}
 use Rattle.mk_record.specs.Journals.{JournalOf}
-use Rattle.mk_record.specs.Members.{assets_of, quotes_of, with_assets}
-use Rattle.mk_market.specs.Points.{IsAccount, ArePaidBy}
+use Rattle.mk_record.specs.Members.{assets_of, with_assets}
+use Rattle.mk_market.specs.Points.{ArePaidBy}
 use Rattle.mk_record.specs.Refused.{IsUser, HasRoomForTransfer}
 use Rattle.mk_asking.specs.Keeping.{TakesAsMuch}
 use Rattle.mk_market.specs.inner.Keeping.{quoted, standing_of, IsKept}
 use Rattle.mk_asking.specs.Quoting.{OwnsAt}
-use Rattle.mk_record.proofs.Appends.{not_there, not_found}
-use Rattle.mk_market.proofs.Growing.{is_open, kept_grown}
+use Rattle.mk_market.proofs.Growing.{is_open}
 use Rattle.mk_asking.proofs.Learnt.{holds_still}
-use Rattle.mk_asking.proofs.Owned.{names_same, quotes_same, held_one}
+use Rattle.mk_asking.proofs.Owned.{quotes_same}
+use Rattle.mk_market.proofs.Moved.{points_below, its_account, transfer_paid, transfer_next, transfer_kept}
 use Rattle.mk_market.proofs.Owned.{withdrawal_holding}
 use Rattle.mk_market.proofs.Owned.{withdrawal_others}
 use Rattle.mk_parts.proofs.Moved.{few_moved}
-use Rattle.mk_market.proofs.Accounted.{paid_set, accounts_withdrawn}
+use Rattle.mk_market.proofs.Accounted.{accounts_withdrawn}
 use Rattle.mk_market.proofs.Replies.{answer_allowed, none_appended, unsettled}
 use Rattle.mk_market.proofs.Weaker.{most_when}
 use Rattle.mk_replay.specs.Tills.{TillOf}
@@ -64,9 +61,10 @@ module _ {P A Plan : Type 0} (weights_stand : P → Meaning → Type 0) (gains_s
 
   pub points_fit : (account_of ledger.accounts user).withdrawn + file.points_per_bit * bits < number_limit
   points_fit =
-      let account : IsAccount (market_of file) journal.history user (account_of ledger.accounts user) = kept.accounts_kept.each user (omega (arith, is_user.within, kept.accounts_kept.one_each)) in
-      let most : file.points_per_bit * (withdrawn journal.history user + bits) ≤ 1000000 * 1000000000 = mul-le-mul file.points_most bits_fit in
-      omega (arith, account.taken_out, most)
+      points_below file (withdrawn journal.history user) bits
+      (account_of ledger.accounts user).withdrawn bits_fit
+      (its_account weights_stand gains_stand plan_for file prices rows plan members ledger journal
+      payments till kept name user is_user).taken_out
 
   pub withdrawal_paid : (new_ledger : LedgerOf)
       → new_ledger ≡ record ledger {
@@ -75,10 +73,10 @@ module _ {P A Plan : Type 0} (weights_stand : P → Meaning → Type 0) (gains_s
       }
       → (at : ℕ) → ArePaidBy (Withdrawn name bits at) ledger.accounts new_ledger.accounts
   withdrawal_paid new_ledger entered at u =
-      ap (λ (l : LedgerOf). (account_of l.accounts u).paid) entered
-      ∙ paid_set ledger.accounts user (let account = account_of ledger.accounts user in record account
-      { withdrawn = account.withdrawn + file.points_per_bit * bits })
-      (omega (arith, is_user.within, kept.accounts_kept.one_each)) refl u
+      transfer_paid weights_stand gains_stand plan_for file prices rows plan members ledger journal
+      payments till kept name user is_user new_ledger
+      (let account = account_of ledger.accounts user in record account
+      { withdrawn = account.withdrawn + file.points_per_bit * bits }) entered refl u
 
   module _ (before mid : Assets A Plan) (there : slice_get (assets_of members) user ≡ Some before) (still : (h : Holding) → Owns gains_stand before h → Owns gains_stand mid h) where
     -- assets that were asked are those that they were
@@ -172,50 +170,32 @@ module _ {P A Plan : Type 0} (weights_stand : P → Meaning → Type 0) (gains_s
     module _ (none : None ≡ first_refusal (market_of file) journal.history (Withdraw name bits))
         (now : Assets A Plan) (new_ledger : LedgerOf) (new_journal : JournalOf)
         (history : new_journal.history ≡ journal.history ++ Withdraws user bits ∷ []) where
-      same_quotes : quotes_of (with_assets members user now) ≡ quotes_of members
-      same_quotes = quotes_same members user before now there
-
-      reply : Reply
-      reply = Withdrawn name bits (revision journal.history + 1)
-
-      fit : IsFit (market_of file) journal.history (Withdraw name bits) reply
-      unfolding reply
-      fit = record { unrefused = sym none; agrees = refl }
-
-      next : standing_of new_journal (with_assets members user now) ≡ after (market_of file) (standing_of journal members) (OfCommand (Withdraw name bits)) reply
-      unfolding reply
-      next = ap₂ (λ (H : List Entry) (qs : List (Option LastQuote)). record { history = H; quotes = map (option_map quoted) qs })
-          (history ∙ ap (λ (v : ℕ). journal.history ++ Withdraws v bits ∷ []) is_user.number) same_quotes
-
       pub withdrawal_kept : TakesAsMuch journal new_journal
           → ((h : Holding) → Holds gains_stand mid h → h.withdrawn + bits ≤ max_bits → Holds gains_stand now (with_withdrawal bits h))
           → new_ledger ≡ record ledger { accounts = slice_set ledger.accounts user (let account = account_of ledger.accounts user in record account { withdrawn = account.withdrawn + file.points_per_bit * bits }) }
           → IsKept weights_stand gains_stand plan_for file prices rows plan (with_assets members user now) new_ledger new_journal payments till
-      unfolding reply
       withdrawal_kept limits withdraws paid =
           let H = journal.history in
-          kept_grown weights_stand gains_stand plan_for file prices prices rows rows plan members (with_assets members user now) ledger new_ledger journal new_journal payments payments till till
-          (Withdraws user bits) (Withdraw name bits) reply tt tt tt kept fit next
-          (record {
-            history = history;
-            limits = limits;
-            prices_grown = λ m stands. stands;
-            rows_grown = λ m stands. stands;
-            names = names_same members user before now there ∙ kept.named ∙ sym (not_found H (Withdraws user bits) Rattle.mk_exact.specs.History.join_in refl);
-            held = held_one file.net file.tree H gains_stand members user before now (Withdraws user bits) there kept.held
-                (subst (Holds gains_stand now) (sym (withdrawal_holding file.net file.tree H user bits))
-                (withdraws (holding_of file.net file.tree H user) (held_still (kept.held user before there)) bits_fit))
-                (withdrawal_others file.net file.tree H user bits);
-            none_quoted = λ u quote at. subst (λ (qs : List (Option LastQuote)). slice_get qs u ≡ Some (Some quote)) same_quotes at;
-            accounts = rw paid (accounts_withdrawn (market_of file) H (unsettled (market_of file) H (Withdraw name bits) none) ledger.accounts user bits (file.points_per_bit * bits) is_user.within refl kept.accounts_kept);
-            ledger_room = rw paid kept.ledger_room;
-            room = λ unsettled. kept.room (sym (not_there H (Withdraws user bits) is_settlement refl) ∙ unsettled);
-            till_room = λ unsettled. kept.till_room (sym (not_there H (Withdraws user bits) is_settlement refl) ∙ unsettled);
-          })
+          transfer_kept weights_stand gains_stand plan_for file prices rows plan members ledger
+          journal payments till kept name user is_user
+          (λ (v : ℕ). Withdraws v bits) before now there new_ledger new_journal history
+          (Withdraw name bits) (Withdrawn name bits (revision H + 1)) tt tt tt
+          (record { unrefused = sym none; agrees = refl }) refl
+          (record { joins = refl; settles = refl; weights = λ m. refl; rows = λ m. refl }) limits
+          (subst (Holds gains_stand now) (sym (withdrawal_holding file.net file.tree H user bits))
+          (withdraws (holding_of file.net file.tree H user)
+          (held_still (kept.held user before there)) bits_fit))
+          (withdrawal_others file.net file.tree H user bits)
+          (rw paid (accounts_withdrawn (market_of file) H
+          (unsettled (market_of file) H (Withdraw name bits) none) ledger.accounts user bits
+          (file.points_per_bit * bits) is_user.within refl kept.accounts_kept))
+          (rw paid kept.ledger_room)
 
       pub withdrawal_next : (at : ℕ) → standing_of new_journal (with_assets members user now) ≡ after (market_of file) (standing_of journal members) (OfCommand (Withdraw name bits)) (Withdrawn name bits at)
-      unfolding reply
-      withdrawal_next at = next
+      withdrawal_next at =
+          transfer_next weights_stand gains_stand plan_for file prices rows plan members ledger
+          journal payments till kept name user is_user
+          (λ (v : ℕ). Withdraws v bits) before now there new_ledger new_journal history
 
     pub short_next : (now : Assets A Plan) (most : ℕ) → standing_of journal (with_assets members user now) ≡ after (market_of file) (standing_of journal members) (OfCommand (Withdraw name bits)) (Refused (Short most))
     short_next now most =

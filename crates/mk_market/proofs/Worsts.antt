@@ -19,7 +19,7 @@ use Rattle.mk_enclose.specs.declared.factor.Factor.{Factor}
 use Rattle.mk_enclose.specs.Enclosure.{Encloses, IsExact, IsGradedWithin}
 use Rattle.mk_enclose.specs.Factor.{StandsFor}
 use Rattle.mk_assets.specs.declared.assets.Assets.{Assets}
-use Rattle.mk_assets.specs.Holdings.{Holding, Owns}
+use Rattle.mk_assets.specs.Holdings.{Owns}
 use Rattle.mk_cash.specs.Accounts.{LedgerOf}
 use Rattle.mk_record.specs.declared.last_quote.LastQuote.{LastQuote}
 use Rattle.mk_command.specs.declared.command.Command.TheVariants.{Worst}
@@ -36,11 +36,10 @@ use Rattle.mk_record.specs.Members.{assets_of, with_assets}
 use Rattle.mk_record.specs.Refused.{IsUser}
 use Rattle.mk_market.specs.inner.Keeping.{quoted, standing_of, IsKept}
 use Rattle.mk_asking.specs.Quoting.{OwnsAt}
-use Rattle.mk_market.proofs.Growing.{is_open, kept_still}
-use Rattle.mk_asking.proofs.Learnt.{holds_still}
-use Rattle.mk_asking.proofs.Owned.{names_same, quotes_same, all_still}
+use Rattle.mk_market.proofs.Growing.{is_open}
+use Rattle.mk_answers.proofs.Told.{cash_for}
+use Rattle.mk_asking.proofs.Owned.{quotes_same}
 use Rattle.mk_market.proofs.Replies.{answer_allowed, none_appended}
-use Rattle.mk_market.proofs.Weaker.{cash_when}
 use Rattle.mk_replay.specs.Tills.{TillOf}
 
 module _ {P A Plan : Type 0} (weights_stand : P → Meaning → Type 0) (gains_stand : A → Meaning → Type 0) (plan_for : Plan → List Variable → GivenTree → Type 0)
@@ -85,10 +84,9 @@ module _ {P A Plan : Type 0} (weights_stand : P → Meaning → Type 0) (gains_s
           low = low;
           high = high;
           printed = refl;
-          covers = cash_when (IsSmall file.net H) (IsExact factor.gain) (HoldsNoTrade H user)
-              (Encloses factor.gain 1) is.exact
-              (one_gain file.net file.tree H user (learnt before there) opened) q
-              (sharpness file.max_trades) file.points_per_bit low high
+          covers = cash_for (IsSmall file.net H) (HoldsNoTrade H user) (IsExact factor.gain)
+              (Encloses factor.gain 1) (sharpness file.max_trades) q file.points_per_bit low high
+              is.exact (one_gain file.net file.tree H user (learnt before there) opened)
               (covers q file.max_trades is.stands is.graded (least.safe sound).at_least_one);
         } in
         answer_allowed (market_of file) (standing_of journal members) (Worst name) (Worsted low high) none
@@ -103,13 +101,3 @@ module _ {P A Plan : Type 0} (weights_stand : P → Meaning → Type 0) (gains_s
     worst_next low high =
         ap (λ (qs : List (Option LastQuote)). record { history = journal.history; quotes = map (option_map quoted) qs }) (quotes_same members user before now there)
         ∙ none_appended (market_of file) (standing_of journal members) (Worst name) (Worsted low high) refl refl
-
-    pub worst_kept : ((h : Holding) → Owns gains_stand before h → Owns gains_stand now h)
-        → IsKept weights_stand gains_stand plan_for file prices rows plan (with_assets members user now) ledger journal payments till
-    worst_kept still = kept_still weights_stand gains_stand plan_for file prices prices rows plan members (with_assets members user now) ledger journal payments till kept
-        (record {
-          prices_still = λ m stands. stands;
-          names_still = names_same members user before now there;
-          quotes_still = quotes_same members user before now there;
-          held_still = all_still members user before now there gains_stand (holds_still gains_stand before now still);
-        })

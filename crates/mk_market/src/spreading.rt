@@ -68,17 +68,14 @@ impl<P: Engine<SumProd>, A: Engine<MinProd>> Market<P, A> {
             &request,
         ) {
             Ok(quote) => quote,
-            Err(why) => {
-                let why = Stopped::Decided(why);
-                return Err(refuse_stopped(
-                    &mut self.prices,
-                    &self.file.net,
-                    variable,
-                    condition.as_slice(),
-                    &request,
-                    why,
-                ));
-            }
+            Err(why) => return Err(refuse_stopped(
+                &mut self.prices,
+                &self.file.net,
+                variable,
+                condition.as_slice(),
+                &request,
+                Stopped::Decided(why),
+            )),
         };
         let intervals = quote.intervals();
         self.users

@@ -36,16 +36,12 @@ standing_of journal members = record { history = journal.history; quotes = map (
 -- the engines, the users and the ledger are as the history leaves them, and the history is safe:
 -- what a store gives back is that also where it isn't sound
 module _ {P A Plan : Type 0} (weights_stand : P → Meaning → Type 0) (gains_stand : A → Meaning → Type 0) (plan_for : Plan → List Variable → GivenTree → Type 0) where
-  pub record IsKept (file : MarketFile) (prices : P) (rows : A) (plan : Plan) (members : List (Member A Plan)) (ledger : LedgerOf) (journal : JournalOf)
-      (payments : Option (List Payment)) (till : Option TillOf) : Type 0 where
+  -- what does not speak of the engines and the users
+  pub record IsKeptBeside (file : MarketFile) (plan : Plan) (ledger : LedgerOf)
+      (journal : JournalOf) (payments : Option (List Payment)) (till : Option TillOf) : Type 0 where
     pub legal : IsNetwork file.net
     pub tree : IsTreeOf file.net file.tree
     pub planned : plan_for plan file.net file.tree
-    pub prices_stand : weights_stand prices (weights_of file.net file.tree journal.history)
-    pub rows_stand : gains_stand rows (rows_of file.net file.tree journal.history)
-    pub named : names_of members ≡ users journal.history
-    pub held : AreHeld gains_stand file.net file.tree journal.history members
-    pub quotes_kept : AreKeptQuotes file.net file.tree journal.history (quotes_of members)
     pub accounts_kept : AreAccounts (market_of file) journal.history ledger.accounts
     pub ledger_room : ledger.room ≡ file.max_users
     pub safe : IsSafe (market_of file) journal.history
@@ -54,3 +50,13 @@ module _ {P A Plan : Type 0} (weights_stand : P → Meaning → Type 0) (gains_s
     pub max_transfers : journal.max_transfers ≡ file.max_transfers
     pub room : is_settled journal.history ≡ false → payments ≡ Some []
     pub till_room : is_settled journal.history ≡ false → till ≡ Some (room_for file.max_users)
+
+  pub record IsKept (file : MarketFile) (prices : P) (rows : A) (plan : Plan) (members : List (Member A Plan)) (ledger : LedgerOf) (journal : JournalOf)
+      (payments : Option (List Payment)) (till : Option TillOf) : Type 0 where
+    pub beside : IsKeptBeside file plan ledger journal payments till
+    pub open beside use *
+    pub prices_stand : weights_stand prices (weights_of file.net file.tree journal.history)
+    pub rows_stand : gains_stand rows (rows_of file.net file.tree journal.history)
+    pub named : names_of members ≡ users journal.history
+    pub held : AreHeld gains_stand file.net file.tree journal.history members
+    pub quotes_kept : AreKeptQuotes file.net file.tree journal.history (quotes_of members)

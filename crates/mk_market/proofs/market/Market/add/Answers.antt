@@ -12,8 +12,7 @@ use Rattle.mk_market.proofs.market.Market.add.Goals as goal
 pub returns-in_err-refuse_add : goal.returns-in_err-refuse_add
 returns-in_err-refuse_add g c =
     answered_refused _ c.args.self.now _ c.self.view_is (each_owns _ _ c.self.invariant.named)
-    (Add c.args.add.now) tt
-    c.in_err-refuse_add.field-0.0 c.from_residual.result c.from_residual.ensures.1
+    _ tt c.in_err-refuse_add.field-0.0 c.from_residual.result c.from_residual.ensures.1
     c.in_err-refuse_add.ensures.refusal
 
 pub returns-then-not-has_text : goal.returns-then-not-has_text

@@ -1,22 +1,20 @@
 use Rattle.std.proofs.Common.{List, refl, sym, subst, ◌∙◌}
-use Rattle.mk_exact.specs.History.{users}
 use Rattle.mk_net.specs.declared.words.PairText.{PairText}
 use Rattle.mk_command.specs.declared.command.Command.TheVariants.{Bounds as BoundsCommand}
 use Rattle.mk_quote.specs.Questions.{spread_in}
 use Rattle.mk_record.specs.declared.last_quote.LastQuote.TheVariants.{Bounds}
 use Rattle.mk_asking.specs.declared.possible.Stopped.TheVariants.{Decided}
 use Rattle.mk_asking.specs.Stopped.{IsRefusedFor}
-use Rattle.mk_asking.proofs.Apart.{apart_quoted}
 use Rattle.mk_market.proofs.Apart.{each_owns}
 use Rattle.mk_market.proofs.Growing.{open_by}
-use Rattle.mk_asking.proofs.Lent.{in_range}
-use Rattle.mk_asking.proofs.Quotes.{quote_was_set}
-use Rattle.mk_market.proofs.Quotes.{kept_quoted}
+use Rattle.mk_market.proofs.Quotes.{IsSet, quoted_kept, quote_set}
 use Rattle.mk_market.proofs.Refiled.{refiled}
 use Rattle.mk_market.proofs.Replies.{answered_by_record}
 use Rattle.mk_asking.proofs.SpreadQuotes.{kept_quote}
 use Rattle.mk_market.proofs.Spreads.{question_for, bounds_answered}
 use Rattle.mk_market.proofs.StoppedSpreads.{kept_beside, can_refuse, bounds_known, decided_answered, bounds_unrefused}
+use Rattle.mk_market.proofs.market.Market.bounds.Given.{Over}
+use Rattle.mk_market.proofs.market.Market.bounds.Goals.{After-revision}
 use Rattle.mk_market.proofs.market.Market.bounds.Goals as goal
 
 pub returns-in_err-request : goal.returns-in_err-request
@@ -72,21 +70,24 @@ returns-in-Err g c =
     c.in-Err.why c.refuse_stopped.result none c.in-Err.ensures.quote refused c.in-Err.ensures.quotes
     (record { named = c.in-Err.ensures.names ∙ c.self.invariant.named; apart = c.in-Err.ensures.apart }))
 
+-- the quote was set
+quoted_so : (g : Over) (c : After-revision g) →
+    let i = c.self.inside in IsSet g.A.Engine.stands_for i.file i.journal i.users
+    c.set_quote.new.self c.in_ok-request.request.user (Bounds c.in-Ok.quote)
+quoted_so g c =
+    let made = c.in-Ok.ensures in
+    quote_set c.self.invariant c.fresh_spread_quote.new.users c.set_quote.new.self
+    c.in_ok-request.request.user (Bounds c.in-Ok.quote) c.in_ok-request.ensures.user.within
+    made.names made.quotes made.held made.apart c.set_quote.ensures
+
 pub invariant_of-self-2 : goal.invariant_of-self-2
 invariant_of-self-2 g c =
     let i = c.self.inside in
-    let found = c.in_ok-request in
-    let made = c.fresh_spread_quote in
+    let user = c.in_ok-request.request.user in
     let quote = c.in-Ok.quote in
-    let its = c.in-Ok.ensures.quote in
-    let are = quote_was_set g.A.Engine.stands_for i.file.net i.file.tree i.journal.history i.users made.new.users c.set_quote.new.self
-    found.request.user (Bounds quote) c.in-Ok.ensures.names c.in-Ok.ensures.quotes
-    c.in-Ok.ensures.held (in_range i.users (users i.journal.history) found.request.user
-    c.self.invariant.named found.ensures.user.within) c.set_quote.ensures in
-    kept_quoted g.P.Engine.stands_for g.A.Engine.stands_for g.A.Engine.plan_for i.file i.prices made.new.prices i.rows i.plan i.users c.set_quote.new.self i.ledger i.journal i.payments i.till
-    c.self.invariant found.request.user (Bounds quote)
-    (kept_quote i.file.net i.file.tree i.journal.history found.request.user _ quote its) are
-    c.in-Ok.ensures.prices
+    quoted_kept c.self.invariant user (Bounds quote)
+    (kept_quote i.file.net i.file.tree i.journal.history user _ quote c.in-Ok.ensures.quote)
+    (quoted_so g (goal.at.invariant_of-self-2 g c).After-revision).0 c.in-Ok.ensures.prices
 
 pub returns : goal.returns
 returns g c =
@@ -95,23 +96,15 @@ returns g c =
     let made = c.fresh_spread_quote in
     let quote = c.in-Ok.quote in
     let its = c.in-Ok.ensures.quote in
+    let are = quoted_so g (goal.at.returns g c).After-revision in
     let question = question_for i.file i.journal.history c.args.variable.now c.as_slice.result.now c.args.condition.now _ c.as_slice.ensures.value found.ensures.question in
     let none = bounds_unrefused g.P.Engine.stands_for g.A.Engine.stands_for g.A.Engine.plan_for i.file i.prices i.rows i.plan i.users i.ledger i.journal i.payments i.till c.self.invariant
     made.new.prices made.new.users c.args.name.now found.request.user found.ensures.user
     c.args.variable.now c.args.condition.now _ question quote its
     (found.ensures.refusal c.args.condition.now (sym c.as_slice.ensures.value)) in
-    let are = quote_was_set g.A.Engine.stands_for i.file.net i.file.tree i.journal.history i.users made.new.users c.set_quote.new.self
-    found.request.user (Bounds quote) c.in-Ok.ensures.names c.in-Ok.ensures.quotes
-    c.in-Ok.ensures.held (in_range i.users (users i.journal.history) found.request.user
-    c.self.invariant.named found.ensures.user.within) c.set_quote.ensures in
     rw (← c.self.view_is)
     (bounds_answered g.P.Engine.stands_for g.A.Engine.stands_for g.A.Engine.plan_for i.file i.prices i.rows i.plan i.users c.set_quote.new.self i.ledger i.journal i.payments i.till
     c.self.invariant c.args.name.now found.request.user found.ensures.user c.args.variable.now
-    c.args.condition.now _ question quote its are.quotes
-    (record {
-      named = are.names ∙ c.self.invariant.named;
-      apart = apart_quoted found.request.user i.users made.new.users c.set_quote.new.self
-          (Bounds quote) c.in-Ok.ensures.apart c.set_quote.ensures;
-    })
+    c.args.condition.now _ question quote its are.0.quotes are.1
     c.intervals-intervals.result c.revision.result none c.intervals-intervals.ensures.value
     c.intervals-intervals.ensures.right c.revision.ensures)

@@ -4,14 +4,13 @@ use Rattle.mk_exact.specs.History.{revision}
 use Rattle.mk_command.specs.declared.command.Command.TheVariants.{Deposit}
 use Rattle.mk_reply.specs.declared.reply.Reply.TheVariants.{Deposited}
 use Rattle.mk_market.specs.Trading.{Trading}
-use Rattle.mk_market.proofs.TakenBack.{left_by_reply, tried_unfit, as_found}
+use Rattle.mk_market.proofs.TakenBack.{left_untold, tried_unfit, as_found}
 use Rattle.mk_market.proofs.market.Market.restore_deposit.Goals as goal
 
 pub returns-then-not-tells_deposit : goal.returns-then-not-tells_deposit
 returns-then-not-tells_deposit g c =
-    rw (← c.self.view_is) (left_by_reply _ (Deposit c.args.name.now c.args.bits) c.args.reply.now
-    (λ agrees. let yes = c.tells_deposit.ensures.1 agrees in
-    let no = c.if-not-tells_deposit.true in absurd (cc)))
+    rw (← c.self.view_is)
+    (left_untold _ _ _ c.tells_deposit.ensures.1 c.if-not-tells_deposit.true)
 
 pub returns-in_err-deposit : goal.returns-in_err-deposit
 returns-in_err-deposit g c =

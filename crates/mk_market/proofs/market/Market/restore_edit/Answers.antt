@@ -1,8 +1,6 @@
-use Rattle.std.specs.Prelude.{[], ◌∷◌, ◌++◌}
-use Rattle.std.proofs.Common.{refl, sym, ap, ◌∙◌, subst}
+use Rattle.std.proofs.Common.{refl, sym, subst}
 use Rattle.mk_net.specs.Asked.{TradeRatio}
 use Rattle.mk_net.specs.Trades.{trade_ratio}
-use Rattle.mk_exact.specs.History.{Trade}
 use Rattle.mk_exact.specs.Sides.{ratio_in}
 use Rattle.mk_file.specs.MarketOf.{market_of}
 use Rattle.mk_command.specs.declared.command.Command.TheVariants.{Edit}
@@ -13,7 +11,7 @@ use Rattle.mk_asking.specs.Quoting.{CanBeMade}
 use Rattle.mk_market.proofs.Replies.{nothing_added}
 use Rattle.mk_market.proofs.TakenBack.{left_by_reply, left_by_refusal, tried_unfit}
 use Rattle.mk_asking.proofs.Traded.{home_of_ratio}
-use Rattle.mk_market.proofs.Trades.{can_be_made, trade_kept}
+use Rattle.mk_market.proofs.Trades.{can_be_made, trade_kept, traded_by}
 use Rattle.mk_market.proofs.TradesBack.{edit_fits, edit_unsettled, edit_units, edit_paid, edit_next}
 use Rattle.mk_market.proofs.market.Market.restore_edit.Goals as goal
 
@@ -58,13 +56,12 @@ invariant_of-self g c =
     let found = c.in_ok-request in
     let wish = c.args.wish.now in
     let units = c.in-Some.units in
-    let ratio = c.ratio_of_edit-ratio in
     let told = c.in-Some.ensures.some in
-    let history = c.trade.ensures.history ∙ ap
-    (λ (r : TradeRatio). i.journal.history ++ Trade found.request.user r ∷ []) ratio.ensures in
+    let history = traded_by i.journal.history found.request.user c.trade.ensures.history
+    c.ratio_of_edit-ratio.ensures in
     trade_kept g.P.Engine.stands_for g.A.Engine.stands_for g.A.Engine.plan_for i.file i.prices
     i.rows i.plan i.users i.ledger i.journal i.payments i.till c.self.invariant found.request.user
-    found.ensures.user.within (trade_ratio ratio.result)
+    found.ensures.user.within (trade_ratio c.ratio_of_edit-ratio.result)
     (Edit c.args.name.now wish.question.now wish.to wish.at) c.args.reply.now tt tt
     (edit_units i.file i.journal c.args.name.now found.request.user found.ensures.user
     wish.question.now found.request.question found.ensures.question wish.to wish.at
@@ -90,10 +87,7 @@ returns g c =
     let found = c.in_ok-request in
     let wish = c.args.wish.now in
     let units = c.in-Some.units in
-    let ratio = c.ratio_of_edit-ratio in
     let told = c.in-Some.ensures.some in
-    let history = c.trade.ensures.history ∙ ap
-    (λ (r : TradeRatio). i.journal.history ++ Trade found.request.user r ∷ []) ratio.ensures in
     rw (← c.self.view_is) (record {
       market = nothing_added (market_of i.file) (standing_of i.journal i.users)
           (Edit c.args.name.now wish.question.now wish.to wish.at) c.args.reply.now tt;
@@ -103,7 +97,8 @@ returns g c =
       next = edit_next i.file i.journal c.args.name.now found.request.user found.ensures.user
           wish.question.now found.request.question found.ensures.question wish.to wish.at
           found.ensures.refusal (units.0) (units.1) c.args.reply.now told i.users c.trade.new.users
-          c.trade.new.journal history c.trade.ensures.quotes;
+          c.trade.new.journal (traded_by i.journal.history found.request.user
+          c.trade.ensures.history c.ratio_of_edit-ratio.ensures) c.trade.ensures.quotes;
       paid = edit_paid i.file i.journal c.args.name.now found.request.user found.ensures.user
           wish.question.now found.request.question found.ensures.question wish.to wish.at
           found.ensures.refusal (units.0) (units.1) c.args.reply.now told i.ledger.accounts;

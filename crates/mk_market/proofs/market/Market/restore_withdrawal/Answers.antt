@@ -7,14 +7,13 @@ use Rattle.mk_reply.specs.declared.reply.Reply.TheVariants.{Withdrawn}
 use Rattle.mk_file.specs.MarketOf.{market_of}
 use Rattle.mk_market.proofs.Withdrawals.{points_fit, can_withdraw, withdrawal_kept}
 use Rattle.mk_market.proofs.Withdrawals.{withdrawal_next, withdrawal_paid}
-use Rattle.mk_market.proofs.TakenBack.{left_by_reply, left_by_refusal, tried_unfit, taken_back}
+use Rattle.mk_market.proofs.TakenBack.{left_untold, left_by_refusal, tried_unfit, taken_back}
 use Rattle.mk_market.proofs.market.Market.restore_withdrawal.Goals as goal
 
 pub returns-then-not-tells_withdrawal : goal.returns-then-not-tells_withdrawal
 returns-then-not-tells_withdrawal g c =
-    rw (← c.self.view_is) (left_by_reply _ (Withdraw c.args.name.now c.args.bits) c.args.reply.now
-    (λ agrees. let yes = c.tells_withdrawal.ensures.1 agrees in
-    let no = c.if-not-tells_withdrawal.true in absurd (cc)))
+    rw (← c.self.view_is)
+    (left_untold _ _ _ c.tells_withdrawal.ensures.1 c.if-not-tells_withdrawal.true)
 
 pub returns-in_err-user : goal.returns-in_err-user
 returns-in_err-user g c =

@@ -31,8 +31,8 @@ pub invariant_of-self-2 : goal.invariant_of-self-2
 invariant_of-self-2 g c =
     refiled _ _ _ _ _ _ _ _ _ _ _ _ g.P.Engine.stands_for g.A.Engine.stands_for g.A.Engine.plan_for _ _ _ _ _ _ _ _
     (join_kept g.P.Engine.stands_for g.A.Engine.stands_for g.A.Engine.plan_for _ _ _ _ _ _ _ _ _ c.self.invariant c.args.name.now c.in-Ok.assets
-    (c.in-Ok.ensures c.self.inside.file.tree (resolutions c.self.inside.journal.history) c.self.invariant.planned) c.join.new.self c.in-Ok-join.ensures.ok c.join-2.new.self c.join-3.new.self
-    c.join-3.ensures.history
+    (c.in-Ok.ensures c.self.inside.file.tree (resolutions c.self.inside.journal.history) c.self.invariant.planned)
+    _ c.in-Ok-join.ensures.ok _ _ c.join-3.ensures.history
     (c.in_ok-refuse_user.ensures.refusal (market_of c.self.inside.file) c.self.invariant.max_users)
     c.bytes.ensures.name (record { trades = c.join-3.ensures.limit; users = c.join-3.ensures.users; transfers = c.join-3.ensures.transfers }) c.join-2.ensures)
 

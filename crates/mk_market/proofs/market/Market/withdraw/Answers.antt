@@ -7,9 +7,9 @@ use Rattle.mk_file.specs.MarketOf.{market_of}
 use Rattle.mk_asking.proofs.Apart.{apart_lent, apart_then}
 use Rattle.mk_market.proofs.Apart.{each_owns, each_owns_then, others_left}
 use Rattle.mk_asking.proofs.Lent.{in_range, names_stay}
-use Rattle.mk_market.proofs.Quotes.{kept_learnt, answered_learnt}
+use Rattle.mk_market.proofs.Quotes.{kept_learnt, kept_lent, answered_learnt}
 use Rattle.mk_market.proofs.Replies.{answered_refused}
-use Rattle.mk_market.proofs.Worsts.{can_find, worst_kept}
+use Rattle.mk_market.proofs.Worsts.{can_find}
 use Rattle.mk_market.proofs.Withdrawals.{points_fit, can_withdraw, short_allowed, short_next}
 use Rattle.mk_market.proofs.Withdrawals.{withdrawal_kept, withdrawal_allowed, withdrawal_next}
 use Rattle.mk_market.proofs.Withdrawals.{withdrawal_paid}
@@ -35,10 +35,9 @@ least_of-requires g c =
 
 pub invariant_of-self : goal.invariant_of-self
 invariant_of-self g c =
-    let i = c.self.inside in
     let kept = kept_learnt c.self.invariant c.learn.ensures.names c.learn.ensures.quotes c.learn.ensures.held in
-    worst_kept g.P.Engine.stands_for g.A.Engine.stands_for g.A.Engine.plan_for _ _ _ _ _ _ _ _ _ kept c.args.name.now c.in_ok-user.user c.in_ok-user.ensures.user
-    c.assets-assets.result.now c.least_of.new.assets c.assets-assets.ensures.value c.least_of.ensures.kept
+    kept_lent kept c.in_ok-user.user c.assets-assets.ensures.value c.least_of.ensures.kept
+    (λ m stands. stands)
 
 pub returns-then-bits-most : goal.returns-then-bits-most
 returns-then-bits-most g c =

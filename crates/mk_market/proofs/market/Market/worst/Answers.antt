@@ -6,9 +6,9 @@ use Rattle.mk_file.specs.MarketOf.{market_of}
 use Rattle.mk_asking.proofs.Apart.{apart_lent, apart_then}
 use Rattle.mk_market.proofs.Apart.{each_owns, others_left}
 use Rattle.mk_asking.proofs.Lent.{in_range, names_stay}
-use Rattle.mk_market.proofs.Quotes.{kept_learnt, answered_learnt}
+use Rattle.mk_market.proofs.Quotes.{kept_learnt, kept_lent, answered_learnt}
 use Rattle.mk_market.proofs.Replies.{answered_refused}
-use Rattle.mk_market.proofs.Worsts.{can_find, worst_allowed, worst_next, worst_kept}
+use Rattle.mk_market.proofs.Worsts.{can_find, worst_allowed, worst_next}
 use Rattle.mk_market.proofs.market.Market.worst.Goals as goal
 
 pub returns-in_err-user : goal.returns-in_err-user
@@ -30,10 +30,9 @@ least_of-factor-requires g c =
 
 pub invariant_of-self : goal.invariant_of-self
 invariant_of-self g c =
-    let i = c.self.inside in
     let kept = kept_learnt c.self.invariant c.learn.ensures.names c.learn.ensures.quotes c.learn.ensures.held in
-    worst_kept g.P.Engine.stands_for g.A.Engine.stands_for g.A.Engine.plan_for _ _ _ _ _ _ _ _ _ kept c.args.name.now c.in_ok-user.user c.in_ok-user.ensures.user
-    c.assets.result.now c.least_of-factor.new.assets c.assets.ensures.value c.least_of-factor.ensures.kept
+    kept_lent kept c.in_ok-user.user c.assets.ensures.value c.least_of-factor.ensures.kept
+    (λ m stands. stands)
 
 pub returns : goal.returns
 returns g c =
