@@ -52,6 +52,7 @@ use Rattle.mk_asking.proofs.Learnt.{held_asked}
 use Rattle.mk_asking.proofs.Lent.{in_range, names_stay, quotes_stay}
 use Rattle.mk_market.specs.Trading.{Trading, IsOnlyAsked}
 use Rattle.mk_market.specs.inner.Keeping.{IsKept}
+use Rattle.mk_market.proofs.Growing.{open_by}
 use Rattle.mk_market.proofs.Quotes.{trading, kept_unquoted}
 use Rattle.mk_market.proofs.Replies.{by_record, stopped_by_states, unrefused}
 use Rattle.mk_evidence.specs.declared.evidence_of_spreads.SpreadEvidence.{SpreadEvidence}
@@ -101,14 +102,6 @@ module _ {P A Plan : Type 0} {weights_stand : P → Meaning → Type 0}
     {till : Option TillOf}
     (kept : IsKept weights_stand gains_stand plan_for file prices rows plan members ledger journal
     payments till) where
-  pub open_now : IsOpen file.net file.tree journal.history
-  open_now = record {
-    legal = kept.legal;
-    tree_of_it = kept.tree;
-    proper = kept.safe.proper;
-    within = kept.safe.bounded.within;
-  }
-
   -- once it was asked it is kept
   pub asked_kept : {new_prices : P} {new_members : List (Member A Plan)}
       → ((m : Meaning) → weights_stand prices m → weights_stand new_prices m)
@@ -143,7 +136,7 @@ module _ {P A Plan : Type 0} {weights_stand : P → Meaning → Type 0}
     tree = file.tree;
     history = journal.history;
     stands = kept.prices_stand;
-    is_open = open_now;
+    is_open = open_by kept;
     answered = answered;
     held = λ value. value_is_held file.tree at spread value at_home;
   }
@@ -153,7 +146,7 @@ module _ {P A Plan : Type 0} {weights_stand : P → Meaning → Type 0}
       → IsRequestFor file journal.history name q request
       → CanFindBoth weights_stand gains_stand file journal.history prices members request
   can_find_both name q request is = record {
-    in_use = record { is_open = open_now; weights = kept.prices_stand; held = kept.held };
+    in_use = record { is_open = open_by kept; weights = kept.prices_stand; held = kept.held };
     user = in_range members (users journal.history) request.user kept.named is.user.within;
     answered = is.question.answered;
     at_home = is.at_home;
@@ -165,7 +158,7 @@ module _ {P A Plan : Type 0} {weights_stand : P → Meaning → Type 0}
       ≡ Some request.home) where
     pub can_ask_each : CanAskEach gains_stand file journal.history members request
     can_ask_each = record {
-      is_open = open_now;
+      is_open = open_by kept;
       held = kept.held;
       user = in_range members (users journal.history) request.user kept.named within;
       answered = answered;
@@ -197,7 +190,7 @@ module _ {P A Plan : Type 0} {weights_stand : P → Meaning → Type 0}
       tree = file.tree;
       history = journal.history;
       stands = stands;
-      is_open = open_now;
+      is_open = open_by kept;
       condition_by = by;
       in_range = is_question.answered.in_order.in_range.condition;
       held = condition_is_held file.tree at (asked_of spread 0) spread.condition refl
@@ -265,7 +258,7 @@ module _ {P A Plan : Type 0} {weights_stand : P → Meaning → Type 0}
           journal.history request.user spread bounds
           → IsSpreadEvidence (market_of file) journal.history name v condition evidence
       spread_is evidence bounds is each = rw is
-          (spread_found file journal.history open_now name request.user is_user v condition
+          (spread_found file journal.history (open_by kept) name request.user is_user v condition
           (record { user = request.user; question = request.question; bounds = bounds }) question
           refl each)
 
@@ -280,7 +273,7 @@ module _ {P A Plan : Type 0} {weights_stand : P → Meaning → Type 0}
         tree = file.tree;
         history = journal.history;
         stands = stands;
-        is_open = open_now;
+        is_open = open_by kept;
         named = is_question.named;
         known = ap (unknown file.net) as_words ∙ known;
         answered = is_question.answered;
@@ -321,7 +314,7 @@ module _ {P A Plan : Type 0} {weights_stand : P → Meaning → Type 0}
           (sym (stopped_by_states (market_of file) journal.history command refusal none
           (stop question.named why refusal is (subst (λ (pairs : List PairText). IsRefusedFor
           file.net journal.history v pairs spread why refusal) as_words
-          (told file.tree journal.history stands open_now (may why is))))))
+          (told file.tree journal.history stands (open_by kept) (may why is))))))
 
     module _ {name v : List ℕ} {words : List PairText} (condition : ArrayVec PairText)
         (as_words : words ≡ condition.items) (request : SpreadRequest)
@@ -416,10 +409,10 @@ module _ {P A Plan : Type 0} {weights_stand : P → Meaning → Type 0}
             (Spread name v condition to seen) none
             (λ named bounds placed. (
               placed_first file.net file.tree journal.history request.user
-                  (spread_in request.question) v condition.items named open_now to.items
+                  (spread_in request.question) v condition.items named (open_by kept) to.items
                   placed.placed,
               placed.found,
             ))
             (λ named. stopped_first file.net file.tree journal.history request.user
-            (spread_in request.question) v condition.items named open_now to.items)
+            (spread_in request.question) v condition.items named (open_by kept) to.items)
             found result is_placed told

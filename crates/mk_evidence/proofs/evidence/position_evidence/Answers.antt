@@ -5,7 +5,8 @@ use Rattle.mk_quote.specs.Questions.{spread_in}
 use Rattle.mk_rules.specs.Refusals.{refusals_by_record}
 use Rattle.mk_rules.proofs.Unrefused.{none_applies}
 use Rattle.mk_market.proofs.Spreads.{question_for}
-use Rattle.mk_evidence.proofs.Asked.{open_now, asked_kept, asked_only, can_ask_each}
+use Rattle.mk_market.proofs.Growing.{open_by}
+use Rattle.mk_evidence.proofs.Asked.{asked_kept, asked_only, can_ask_each}
 use Rattle.mk_evidence.proofs.Asked.{refused_by_record, can_refuse_under, refused_under}
 use Rattle.mk_evidence.proofs.Evidenced.{position_found, position_stopped}
 use Rattle.mk_evidence.proofs.evidence.position_evidence.Goals as goal
@@ -43,35 +44,35 @@ pub invariant_of-market-in-None : goal.invariant_of-market-in-None
 invariant_of-market-in-None g c =
     asked_kept c.market.invariant c.refuse_condition.ensures.kept c.sure_factors.ensures.users
 
-pub returns-in-Some-clause-same : goal.returns-in-Some-clause-same
-returns-in-Some-clause-same g c =
-    asked_only c.market.invariant c.market.view_is c.sure_factors.ensures.users
-
-pub returns-in-Some-clause-evidence : goal.returns-in-Some-clause-evidence
-returns-in-Some-clause-evidence g c =
+pub returns-in-Some : goal.returns-in-Some
+returns-in-Some g c =
     let i = c.market.inside in let H = i.journal.history in let its = c.in_ok-request.ensures in
     let spread = spread_in c.in_ok-request.request.question in
-    rw (← c.market.view_is) (position_found i.file H c.args.variable.now c.args.condition.now spread
-    (question_for i.file H c.args.variable.now c.as_slice-words.result.now c.args.condition.now
-    spread c.as_slice-words.ensures.value its.question) c.args.name.now
-    (its.refusal c.args.condition.now (sym c.as_slice-words.ensures.value))
-    c.in_ok-request.request.user its.user c.in-Some.factors c.in-Some.ensures.factors)
+    record {
+      same = asked_only c.market.invariant c.market.view_is c.sure_factors.ensures.users;
+      evidence = rw (← c.market.view_is) (position_found i.file H c.args.variable.now
+          c.args.condition.now spread
+          (question_for i.file H c.args.variable.now c.as_slice-words.result.now
+          c.args.condition.now spread c.as_slice-words.ensures.value its.question) c.args.name.now
+          (its.refusal c.args.condition.now (sym c.as_slice-words.ensures.value))
+          c.in_ok-request.request.user its.user c.in-Some.factors c.in-Some.ensures.factors);
+    }
 
-pub returns-in-None-clause-same : goal.returns-in-None-clause-same
-returns-in-None-clause-same g c =
-    asked_only c.market.invariant c.market.view_is c.sure_factors.ensures.users
-
-pub returns-in-None-clause-evidence : goal.returns-in-None-clause-evidence
-returns-in-None-clause-evidence g c =
+pub returns-in-None : goal.returns-in-None
+returns-in-None g c =
     let i = c.market.inside in let H = i.journal.history in let its = c.in_ok-request.ensures in
     let spread = spread_in c.in_ok-request.request.question in
     let command = Position c.args.name.now c.args.variable.now c.args.condition.now in
     let none = its.refusal c.args.condition.now (sym c.as_slice-words.ensures.value) in
-    rw (← c.market.view_is) (position_stopped i.file H c.args.variable.now c.args.condition.now
-    spread (question_for i.file H c.args.variable.now c.as_slice-words.result.now
-    c.args.condition.now spread c.as_slice-words.ensures.value its.question) c.args.name.now none
-    c.refuse_condition.result (refused_under c.market.invariant c.args.variable.now
-    c.args.condition.now c.as_slice-words.result.now c.as_slice-words.ensures.value spread
-    its.question (none_applies (refusals_by_record (market_of i.file) H command) (sym none)).1.1.1.0
-    c.in-None.ensures.factors c.refuse_condition.result (c.refuse_condition.ensures.refusal
-    i.file.net i.file.tree H c.market.invariant.prices_stand (open_now c.market.invariant))))
+    record {
+      same = asked_only c.market.invariant c.market.view_is c.sure_factors.ensures.users;
+      evidence = rw (← c.market.view_is) (position_stopped i.file H c.args.variable.now
+          c.args.condition.now spread (question_for i.file H c.args.variable.now
+          c.as_slice-words.result.now c.args.condition.now spread c.as_slice-words.ensures.value
+          its.question) c.args.name.now none c.refuse_condition.result
+          (refused_under c.market.invariant c.args.variable.now c.args.condition.now
+          c.as_slice-words.result.now c.as_slice-words.ensures.value spread its.question
+          (none_applies (refusals_by_record (market_of i.file) H command) (sym none)).1.1.1.0
+          c.in-None.ensures.factors c.refuse_condition.result (c.refuse_condition.ensures.refusal
+          i.file.net i.file.tree H c.market.invariant.prices_stand (open_by c.market.invariant))));
+    }

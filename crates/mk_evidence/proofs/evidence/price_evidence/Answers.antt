@@ -5,13 +5,13 @@ use Rattle.mk_exact.specs.Market.{Market}
 use Rattle.mk_command.specs.declared.command.Command.TheVariants.{Price}
 use Rattle.mk_file.specs.MarketOf.{market_of}
 use Rattle.mk_beliefs.specs.Meanings.{weights_of}
-use Rattle.mk_net.specs.Events.{pairs_asked}
-use Rattle.mk_tree.proofs.Held.{home_is_held}
 use Rattle.mk_answers.specs.Evidence.{grade_together}
 use Rattle.mk_evidence.specs.Grades.{evidence_grade}
 use Rattle.mk_evidence.specs.Evidence.{IsPriceEvidence}
 use Rattle.mk_evidence.proofs.Grading.{weights_within}
-use Rattle.mk_evidence.proofs.Asked.{open_now, refused_by_record}
+use Rattle.mk_market.proofs.Answers.{can_price}
+use Rattle.mk_market.proofs.Growing.{open_by}
+use Rattle.mk_evidence.proofs.Asked.{refused_by_record}
 use Rattle.mk_evidence.proofs.Evidenced.{asked_in, stopped_in, price_found, price_stopped}
 use Rattle.mk_asking.proofs.Stopping.{can_refuse_condition, impossible_by}
 use Rattle.mk_market.proofs.Stopping.{price_known}
@@ -24,22 +24,13 @@ returns-in_err-asked-clause-evidence g c = refused_by_record c.market.invariant 
 
 pub price_bounds_of-requires : goal.price_bounds_of-requires
 price_bounds_of-requires g c =
-    let i = c.market.inside in
-    let found = c.in_ok-asked in
-    record {
-      tree = i.file.tree;
-      history = i.journal.history;
-      stands = c.market.invariant.prices_stand;
-      is_open = open_now c.market.invariant;
-      answered = found.ensures.question.answered;
-      held = home_is_held i.file.tree found.home (pairs_asked found.asked) found.ensures.home;
-    }
+    can_price c.market.invariant c.in_ok-asked.ensures.question c.in_ok-asked.ensures.home
 
 pub refuse_condition-requires : goal.refuse_condition-requires
 refuse_condition-requires g c =
     let i = c.market.inside in let found = c.in_ok-asked in let H = i.journal.history in
     let of = grade_together (g.P.Engine.grade_of (weights_of i.file.net i.file.tree H)) in
-    let opened = open_now c.market.invariant in
+    let opened = open_by c.market.invariant in
     let bounds = c.in-None.ensures.bounds i.file.tree H of c.market.invariant.prices_stand opened
     found.ensures.question.answered (le_refl of) in
     can_refuse_condition g.P.Engine.stands_for c.price_bounds_of.new.prices i.file.net i.file.tree H
@@ -55,7 +46,7 @@ pub returns-in-Some-clause-evidence : goal.returns-in-Some-clause-evidence
 returns-in-Some-clause-evidence g c =
     let i = c.market.inside in let found = c.in_ok-asked in let H = i.journal.history in
     let m = weights_of i.file.net i.file.tree H in
-    let opened = open_now c.market.invariant in
+    let opened = open_by c.market.invariant in
     asked_in c.args.market.now _ c.market.view_is (Price c.args.question.now) (Ok c.in-Some.bounds)
     (λ (market : Market) (history : List Entry). IsPriceEvidence market history
     c.args.question.now)
@@ -69,7 +60,7 @@ pub returns-in-None-clause-evidence : goal.returns-in-None-clause-evidence
 returns-in-None-clause-evidence g c =
     let i = c.market.inside in let found = c.in_ok-asked in let H = i.journal.history in
     let of = grade_together (g.P.Engine.grade_of (weights_of i.file.net i.file.tree H)) in
-    let opened = open_now c.market.invariant in
+    let opened = open_by c.market.invariant in
     let bounds = c.in-None.ensures.bounds i.file.tree H of c.market.invariant.prices_stand opened
     found.ensures.question.answered (le_refl of) in
     stopped_in c.args.market.now _ c.market.view_is (Price c.args.question.now)

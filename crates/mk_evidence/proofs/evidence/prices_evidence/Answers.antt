@@ -9,7 +9,8 @@ use Rattle.mk_answers.specs.Evidence.{grade_together}
 use Rattle.mk_market.proofs.Spreads.{question_for}
 use Rattle.mk_evidence.specs.Grades.{evidence_grade}
 use Rattle.mk_evidence.proofs.Grading.{weights_within}
-use Rattle.mk_evidence.proofs.Asked.{open_now, refused_by_record, can_refuse_under}
+use Rattle.mk_market.proofs.Growing.{open_by}
+use Rattle.mk_evidence.proofs.Asked.{refused_by_record, can_refuse_under}
 use Rattle.mk_evidence.proofs.Asked.{can_tell_prices, refused_under}
 use Rattle.mk_evidence.proofs.Evidenced.{prices_found, prices_stopped}
 use Rattle.mk_evidence.proofs.evidence.prices_evidence.Goals as goal
@@ -37,7 +38,7 @@ refuse_condition-requires g c =
     found.ensures.question
     (none_applies (refusals_by_record (market_of i.file) H command) (sym none)).1.1.0
     (c.in-None.ensures.bounds i.file.tree H (grade_together (g.P.Engine.grade_of m))
-    c.market.invariant.prices_stand (open_now c.market.invariant)
+    c.market.invariant.prices_stand (open_by c.market.invariant)
     found.ensures.question.answered (le_refl (grade_together (g.P.Engine.grade_of m))))
     c.value_price_bounds_of.new.prices
     (c.value_price_bounds_of.ensures.kept m c.market.invariant.prices_stand) found.home
@@ -52,7 +53,7 @@ returns-in-Some-clause-evidence g c =
     spread c.as_slice-words.ensures.value found.ensures.question)
     (found.ensures.refusal c.args.condition.now (sym c.as_slice-words.ensures.value))
     c.in-Some.bounds (c.in-Some.ensures.bounds i.file.tree H (evidence_grade (market_of i.file) H)
-    c.market.invariant.prices_stand (open_now c.market.invariant) found.ensures.question.answered
+    c.market.invariant.prices_stand (open_by c.market.invariant) found.ensures.question.answered
     (weights_within i.file H (g.P.Engine.grade_of m) (g.met.P.TreeGraded.within_tree m))))
 
 pub returns-in-None-clause-evidence : goal.returns-in-None-clause-evidence
@@ -68,8 +69,8 @@ returns-in-None-clause-evidence g c =
     c.as_slice-words.result.now c.as_slice-words.ensures.value spread found.ensures.question
     (none_applies (refusals_by_record (market_of i.file) H command) (sym none)).1.1.0
     (c.in-None.ensures.bounds i.file.tree H (grade_together (g.P.Engine.grade_of m))
-    c.market.invariant.prices_stand (open_now c.market.invariant)
+    c.market.invariant.prices_stand (open_by c.market.invariant)
     found.ensures.question.answered (le_refl (grade_together (g.P.Engine.grade_of m))))
     c.refuse_condition.result (c.refuse_condition.ensures.refusal i.file.net i.file.tree H
     (c.value_price_bounds_of.ensures.kept m c.market.invariant.prices_stand)
-    (open_now c.market.invariant))))
+    (open_by c.market.invariant))))

@@ -5,7 +5,8 @@ use Rattle.mk_file.specs.MarketOf.{market_of}
 use Rattle.mk_asking.proofs.Lent.{in_range}
 use Rattle.mk_market.specs.Trading.{Trading}
 use Rattle.mk_evidence.specs.Grades.{evidence_grade}
-use Rattle.mk_evidence.proofs.Asked.{learnt_asked, open_now, asked_kept, asked_only}
+use Rattle.mk_market.proofs.Growing.{open_by}
+use Rattle.mk_evidence.proofs.Asked.{learnt_asked, asked_kept, asked_only}
 use Rattle.mk_evidence.proofs.Grading.{gain_within}
 use Rattle.mk_evidence.proofs.evidence.user_factor.Goals as goal
 
@@ -25,7 +26,7 @@ least_of-requires g c =
       history = i.journal.history;
       user = c.args.user;
       owns = c.learn.ensures.learnt c.assets.result.now c.assets.ensures.value;
-      is_open = open_now c.market.invariant;
+      is_open = open_by c.market.invariant;
     }
 
 pub invariant_of-market : goal.invariant_of-market
@@ -47,5 +48,5 @@ returns-clause-least g c =
     rw (← c.market.view_is) (c.least_of.ensures.judged i.file.net i.file.tree H c.args.user
     (evidence_grade (market_of i.file) H)
     (c.learn.ensures.learnt c.assets.result.now c.assets.ensures.value)
-    (open_now c.market.invariant)
+    (open_by c.market.invariant)
     (gain_within i.file H c.args.user (g.A.Engine.grade_of m) (g.met.A.TreeGraded.within_tree m)))

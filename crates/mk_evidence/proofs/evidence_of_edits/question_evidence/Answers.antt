@@ -6,7 +6,8 @@ use Rattle.mk_beliefs.specs.Meanings.{weights_of}
 use Rattle.mk_evidence.specs.declared.evidence_of_edits.EditEvidence.{EditEvidence}
 use Rattle.mk_evidence.specs.Evidence.{IsEditEvidence}
 use Rattle.mk_evidence.specs.inner.Finding.{question_command}
-use Rattle.mk_evidence.proofs.Asked.{open_now, asked_kept, asked_only, can_find_both}
+use Rattle.mk_market.proofs.Growing.{open_by}
+use Rattle.mk_evidence.proofs.Asked.{asked_kept, asked_only, can_find_both}
 use Rattle.mk_evidence.proofs.Asked.{refused_by_record}
 use Rattle.mk_evidence.proofs.Evidenced.{asked_in, stopped_in, asked_by, question_found}
 use Rattle.mk_evidence.proofs.Evidenced.{question_stopped}
@@ -31,7 +32,7 @@ refuse_decided-requires g c =
       history = H;
       stands = c.in-Err.ensures.prices (weights_of i.file.net i.file.tree H)
           c.market.invariant.prices_stand;
-      is_open = open_now c.market.invariant;
+      is_open = open_by c.market.invariant;
       asked_by = asked_by i.file H c.args.name.now c.args.question.now c.in_ok-request.request is
           c.args.wish c.in_ok-request.ensures.refusal;
       answered = is.question.answered;
@@ -60,7 +61,7 @@ returns-in-Ok-clause-evidence g c =
     (λ (market : Market) (history : List Entry). IsEditEvidence market history c.args.name.now
     c.args.question.now)
     (question_found i.file i.journal.history c.args.name.now c.args.question.now found.request
-    found.ensures.request (open_now c.market.invariant) c.args.wish found.ensures.refusal
+    found.ensures.request (open_by c.market.invariant) c.args.wish found.ensures.refusal
     c.in-Ok.bounds c.in-Ok.ensures.bounds evidence refl)
 
 pub invariant_of-market-in-Err : goal.invariant_of-market-in-Err
@@ -82,6 +83,6 @@ returns-in-Err-clause-evidence g c =
     c.in_ok-request.request is c.args.wish c.refuse_decided.result none
     (c.refuse_decided.ensures.refusal i.file.net i.file.tree H
     (c.in-Err.ensures.prices (weights_of i.file.net i.file.tree H) c.market.invariant.prices_stand)
-    (open_now c.market.invariant)
+    (open_by c.market.invariant)
     (asked_by i.file H c.args.name.now c.args.question.now c.in_ok-request.request is c.args.wish
     none) c.in-Err.ensures.bounds))

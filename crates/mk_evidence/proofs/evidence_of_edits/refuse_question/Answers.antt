@@ -5,14 +5,12 @@ pub returns-in-Some-clause-refusal : goal.returns-in-Some-clause-refusal
 returns-in-Some-clause-refusal g c = rw c.in-Some.is c.refuse_edit.ensures.refusal
 
 pub returns-in-Some-clause-request : goal.returns-in-Some-clause-request
-returns-in-Some-clause-request g c = request_found c.args.file.now c.args.journal.now.history
-    c.args.name.now c.args.question.now c.refuse_edit.result c.refuse_edit.ensures.user
-    c.refuse_edit.ensures.question c.refuse_edit.ensures.home
+returns-in-Some-clause-request g c = request_found _ _ _ _ c.refuse_edit.result
+    c.refuse_edit.ensures.user c.refuse_edit.ensures.question c.refuse_edit.ensures.home
 
 pub returns-in-None-clause-refusal : goal.returns-in-None-clause-refusal
 returns-in-None-clause-refusal g c = rw c.in-None.is c.refuse_limits.ensures.refusal
 
 pub returns-in-None-clause-request : goal.returns-in-None-clause-request
-returns-in-None-clause-request g c = request_found c.args.file.now c.args.journal.now.history
-    c.args.name.now c.args.question.now c.refuse_limits.result c.refuse_limits.ensures.user
-    c.refuse_limits.ensures.question c.refuse_limits.ensures.home
+returns-in-None-clause-request g c = request_found _ _ _ _ c.refuse_limits.result
+    c.refuse_limits.ensures.user c.refuse_limits.ensures.question c.refuse_limits.ensures.home

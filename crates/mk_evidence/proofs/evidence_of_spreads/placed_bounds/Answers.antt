@@ -23,16 +23,14 @@ impossible_share-requires g c =
 pub returns-in-Some-clause-placed : goal.returns-in-Some-clause-placed
 returns-in-Some-clause-placed g c = record {
   quote = c.quote_of-quote.result;
-  its = c.quote_of-quote.ensures c.args.file.now.net c.args.file.now.tree _
-      c.requires.found.users.answered c.in-Ok.ensures.bounds;
+  its = c.quote_of-quote.ensures _ _ _ c.requires.found.users.answered c.in-Ok.ensures.bounds;
   meets = sym c.in-Some.ensures;
 }
 
 pub returns-then-misses_share-clause-placed : goal.returns-then-misses_share-clause-placed
 returns-then-misses_share-clause-placed g c = record {
   quote = c.quote_of-quote.result;
-  its = c.quote_of-quote.ensures c.args.file.now.net c.args.file.now.tree _
-      c.requires.found.users.answered c.in-Ok.ensures.bounds;
+  its = c.quote_of-quote.ensures _ _ _ c.requires.found.users.answered c.in-Ok.ensures.bounds;
   meets = (
     sym c.impossible_share.ensures ∙ only_none c.impossible_share.result c.in_default.not-Some,
     sym c.misses_share.ensures ∙ c.if-misses_share.true,
@@ -44,8 +42,7 @@ returns-clause-placed g c = record {
   found = c.in-Ok.ensures.bounds;
   placed = record {
     quote = c.quote_of-quote.result;
-    its = c.quote_of-quote.ensures c.args.file.now.net c.args.file.now.tree _
-        c.requires.found.users.answered c.in-Ok.ensures.bounds;
+    its = c.quote_of-quote.ensures _ _ _ c.requires.found.users.answered c.in-Ok.ensures.bounds;
     meets = (
       sym c.impossible_share.ensures ∙ only_none c.impossible_share.result c.in_default.not-Some,
       sym c.misses_share.ensures ∙ c.if-misses_share.false,
