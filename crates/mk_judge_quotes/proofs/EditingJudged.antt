@@ -1,5 +1,6 @@
 -- Judgements of limits and of trades, by bounds of both sides.
-use Rattle.std.proofs.Common.{◌≡◌, ℕ, ◌+◌, ◌-◌, ◌⊎◌, inl, inr, Bool, true, false, IsTrue, List, Option, Some, None, IsSomeAnd, ◌↔◌, refl, sym, ap, subst, ◌∙◌}
+use Rattle.std.proofs.Common.{◌≡◌, ℕ, ◌+◌, ◌-◌, ◌⊎◌, inl, inr, Bool, true, false, IsTrue, List}
+use Rattle.std.proofs.Common.{Option, Some, None, ◌↔◌, refl, sym, ap, subst, ◌∙◌}
 use Rattle.mk_net.specs.Bounds.{million}
 use Rattle.mk_net.specs.declared.words.QuestionText.{QuestionText}
 use Rattle.mk_net.specs.Asked.{Asked}
@@ -7,10 +8,8 @@ use Rattle.mk_exact.specs.History.{Entry, revision}
 use Rattle.mk_exact.specs.Factors.{HoldsNoTrade}
 use Rattle.mk_exact.specs.Limits.{Side, IsFairAndSolvent, Inside, AreRight}
 use Rattle.mk_exact.specs.Market.{Market}
-use Rattle.mk_exact.specs.Sides.{IsSide, AreSides, AreRightLimits}
+use Rattle.mk_exact.specs.Sides.{AreSides, AreRightLimits}
 use Rattle.mk_states.specs.Events.{with_target, without_target}
-use Rattle.mk_exact.specs.Factors.{factor_with, least_gain}
-use Rattle.mk_exact.specs.Prices.{price_where}
 use Rattle.mk_net.specs.Network.{Variable}
 use Rattle.mk_exact.specs.Weight.{IsSmall}
 use Rattle.mk_quote.specs.declared.bounds.Bounds.{Bounds}
@@ -21,6 +20,7 @@ use Rattle.mk_reply.specs.declared.reply.Reply.{Reply}
 use Rattle.mk_reply.specs.declared.reply.Reply.TheVariants as reply
 use Rattle.mk_rules.specs.Refusals.{user_number}
 use Rattle.mk_rules.specs.Quotes.{Interval}
+use Rattle.mk_rules.proofs.OneKind.{one_side}
 use Rattle.mk_rules.specs.Answers.{IsTrade, IsBeyond, IsBeyondRight, IsJudged, IsJudgedAfresh, IsLimits}
 use Rattle.mk_judge.specs.declared.judged.Judged.{Judged}
 use Rattle.mk_judge.specs.declared.judged.Judged.TheVariants.{Allowed, Wrong, Unclear}
@@ -74,18 +74,6 @@ pub record JudgesUnits (j : Judged) (of : SideBounds) (small : Bool) (X F : ℕ)
   pub allowed : j ≡ Allowed → (side : Side) → AreSideBounds of small side → IsFairAndSolvent (IsTrue small) side X F
   pub wrong : j ≡ Wrong → (side : Side) → AreSideBounds of small side → IsFairAndSolvent (IsTrue small) side X F → ⊥
   pub unclear : j ≡ Unclear → (side : Side) → AreSideBounds of small side → AreUnitsNear of small side F X
-
--- a question has one side of each kind
-one_side : (network : List Variable) (H : List Entry) (u : ℕ) (asked : Asked) (test : List ℕ → Bool) (a b : Side)
-    → IsSide network H u asked test a → IsSide network H u asked test b → a ≡ b
-one_side network H u asked test a b h k = at (least_gain network H u test) h k
-  where
-    side_of : ℕ → Side
-    side_of g = record { price = price_where network H asked.condition test; least = factor_with H u g }
-
-    at : (o : Option ℕ) → IsSomeAnd o (λ g. a ≡ side_of g) → IsSomeAnd o (λ g. b ≡ side_of g) → a ≡ b
-    at None h k = absurd h
-    at (Some g) h k = h ∙ sym k
 
 -- units of one side
 pub units_judged : (market : Market) (H : List Entry) (u : ℕ) (of : SideBounds) (small : Bool) (side : Side) (X F : ℕ) (j : Judged) → TellsSmall small market H
@@ -222,10 +210,8 @@ module _ (market : Market) (H : List Entry) (name : List ℕ) (q : QuestionText)
   pub afresh_judged : (X : ℕ) (told : Reply) (j : Judged) → beyond_told told ≡ None
       → Judges j (IsTrade market.network H (user_number H name) its.asked X told) (IsTradeLeftOpen market H (user_number H name) its.asked X told)
       → Judges j (IsJudgedAfresh market.network H (user_number H name) its.asked X told) (IsTradeLeftOpen market H (user_number H name) its.asked X told)
-  afresh_judged X told j none = judges_alone j
-      (IsTrade market.network H (user_number H name) its.asked X told)
-      (IsBeyondRight market.network H (user_number H name) its.asked X told)
-      (IsTradeLeftOpen market H (user_number H name) its.asked X told)
+  afresh_judged X told j none = judges_alone j _
+      (IsBeyondRight market.network H (user_number H name) its.asked X told) _
       (λ refused. let e : Some refused.limits ≡ None = sym (ap beyond_told refused.beyond.printed)
       ∙ none in cc)
 

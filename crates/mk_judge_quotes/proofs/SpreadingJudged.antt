@@ -162,10 +162,8 @@ module _ (market : Market) (H : List Entry) (name v : List ℕ) (condition : Arr
   pub anew_judged : (Xs : List ℕ) (told : Reply) (j : Judged) → outside_told told ≡ None
       → Judges j (IsSpreadTrade market.network H (user_number H name) its.spread Xs told) (IsSpreadTradeLeftOpen market H (user_number H name) its.spread Xs told)
       → Judges j (IsSpreadJudgedAfresh market.network H (user_number H name) its.spread Xs told) (IsSpreadTradeLeftOpen market H (user_number H name) its.spread Xs told)
-  anew_judged Xs told j none = judges_alone j
-      (IsSpreadTrade market.network H (user_number H name) its.spread Xs told)
-      (IsOutsideRight market.network H (user_number H name) its.spread Xs told)
-      (IsSpreadTradeLeftOpen market H (user_number H name) its.spread Xs told)
+  anew_judged Xs told j none = judges_alone j _
+      (IsOutsideRight market.network H (user_number H name) its.spread Xs told) _
       (λ refused. let e : Some refused.outside.box ≡ None = sym
       (ap outside_told refused.outside.printed) ∙ none in cc)
 

@@ -121,8 +121,9 @@ fn judge_trade(bounds: &Bounds, small: bool, now: u64, to: u32, reply: &Reply) -
     match reply {
         Reply::Traded { hit, miss, at } => {
             if *at >= 1 && *at - 1 == now {
-                let of_hit = judge_units(&hit_side(bounds), small, to, *hit);
-                let of_miss = judge_units(&miss_side(bounds), small, MILLION - to, *miss);
+                let (hit_side, miss_side) = sides(bounds);
+                let of_hit = judge_units(&hit_side, small, to, *hit);
+                let of_miss = judge_units(&miss_side, small, MILLION - to, *miss);
                 of_hit.and(of_miss)
             } else {
                 Judged::Wrong
@@ -158,24 +159,19 @@ pub(crate) fn is_inside(limits: Option<(u32, u32)>, to: u32) -> bool
     }
 }
 
-/// The side of the target.
-fn hit_side(bounds: &Bounds) -> SideBounds
-    ensures { result ≡ side.hit_side bounds.now }
+/// The side of the target, and that of the other values.
+fn sides(bounds: &Bounds) -> (SideBounds, SideBounds)
+    ensures { result ≡ (side.hit_side bounds.now, side.miss_side bounds.now) }
 {
-    SideBounds {
+    let hit = SideBounds {
         part: bounds.hit,
         whole: bounds.whole,
         factor: bounds.hit_factor,
-    }
-}
-
-/// The side of the other values.
-fn miss_side(bounds: &Bounds) -> SideBounds
-    ensures { result ≡ side.miss_side bounds.now }
-{
-    SideBounds {
+    };
+    let miss = SideBounds {
         part: bounds.miss,
         whole: bounds.whole,
         factor: bounds.miss_factor,
-    }
+    };
+    (hit, miss)
 }
