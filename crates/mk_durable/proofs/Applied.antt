@@ -17,7 +17,7 @@ use Rattle.mk_journal.specs.Moments.{LeavesOnly}
 use Rattle.mk_journal.specs.inner.HeldLaws.{held_left}
 use Rattle.mk_journal.specs.inner.MomentLaws.{started}
 use Rattle.mk_market.specs.Trading.{Trading, IsAnswered}
-use Rattle.mk_durable.specs.Applying.{records_made}
+use Rattle.mk_durable.specs.Applying.{DurableOf, IsApplied, records_made}
 
 -- by the length of the history behind a reply
 no_entry : (H : List Entry) (change : Command × Reply) (o : Option Entry)
@@ -80,3 +80,15 @@ module _ (file : Option (List ℕ)) (may_leave : List ℕ → Type 0) (store : S
   left_still only = started (λ c left.
       subst (λ (rs : List (List ℕ)). IsFront bytes (records ++ rs) (length records) c) (sym none)
       (held_left held c (only c left)))
+
+-- what is known of a market and its store is known of a durable market that is these
+pub known_of : {Own : Type 0} {seen now : DurableOf Own} → seen ≡ now → (file : Option (List ℕ))
+    (may_leave : List ℕ → Type 0) (bytes : List ℕ) (records : List (List ℕ)) (after : Trading Own)
+    (command : Command) (P : Trading Own → Reply → Type 0)
+    → (IsHeld file may_leave seen.store bytes records []
+    → IsApplied seen.trading after command (P seen.trading))
+    → IsHeld file may_leave now.store bytes records []
+    → IsApplied now.trading after command (P now.trading)
+known_of {Own = Own} is file may_leave bytes records after command P =
+    subst (λ (d : DurableOf Own). IsHeld file may_leave d.store bytes records []
+    → IsApplied d.trading after command (P d.trading)) is

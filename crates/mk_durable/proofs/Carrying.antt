@@ -1,9 +1,9 @@
 -- What the end of a run over a store says, by what was found of its market file and of the store.
-use Rattle.std.proofs.Common.{◌≡◌, ℕ, ◌<◌, ◌≤◌, List, [], ◌++◌, length, Option}
+use Rattle.std.proofs.Common.{◌≡◌, ℕ, ◌≤◌, List, [], ◌++◌, length, Option}
 use Rattle.std.proofs.Common.{Some, Result, Ok, Err, IsOk, ◌⊎◌, inl, inr, refl, sym, ap}
 use Rattle.std.proofs.Common.{subst, ◌∙◌, arith}
-use Rattle.std.proofs.Common.{nat_lt, if◌then◌else◌, ap₂}
-use Rattle.std.proofs.lemmas.Bool.{cases_lt, lt-ltb}
+use Rattle.std.proofs.Common.{Bool, true, false, nat_lt, if◌then◌else◌, ap₂}
+use Rattle.std.proofs.lemmas.Bool.{ltb-false}
 use Rattle.std.proofs.lemmas.List.{take_all}
 use Rattle.mk_io.specs.declared.status.Status.{Status}
 use Rattle.mk_io.specs.declared.status.Status.TheVariants.{Done, Usage, MarketRefused, ReadFault}
@@ -47,30 +47,20 @@ use Rattle.mk_durable.specs.KeepOutcome.{IsHonestStore, AreHonest}
 use Rattle.mk_durable.specs.inner.Preparing.{AreHonestTo, Stops}
 use Rattle.mk_durable.proofs.Refusing.{gives_one, refuses_no_honest}
 
--- the market of a file is not given by one that is too long
-gate : ℕ → List ℕ → Result Market FileFault
-gate most bytes = if nat_lt most (length bytes) then Err TooLong else of_document
-    (document_of bytes)
-
-too_long : (most : ℕ) (bytes : List ℕ) → most < length bytes → gate most bytes ≡ Err TooLong
-unfolding gate
-too_long most bytes h = rw (lt-ltb most (length bytes) h) refl
-
-gate_few : (most : ℕ) (file : List ℕ) (market : Market) → gate most file ≡ Ok market
-    → length file ≤ most
-gate_few most file market given = at (cases_lt most (length file))
+-- what gives a market is not refused for its length
+is_short : (long : Bool) (given : Result Market FileFault) (market : Market)
+    → (if long then Err TooLong else given) ≡ Ok market → long ≡ false
+is_short true given market e = absurd (ok_is_not_long (sym e))
   where
-    at : ((most < length file) ⊎ (length file ≤ most)) → length file ≤ most
-    at (inl longer) = absurd (ok_is_not_long (sym given ∙ too_long most file longer))
-      where
-        ok_is_not_long : Ok market ≡ Err TooLong → ⊥
-        ok_is_not_long e = cc
-    at (inr shorter) = shorter
+    ok_is_not_long : Ok market ≡ Err TooLong → ⊥
+    ok_is_not_long f = cc
+is_short false given market e = refl
 
 pub file_is_few : (file : List ℕ) (market : Market) → file_of file ≡ Ok market
     → length file ≤ 1048576
-unfolding gate
-file_is_few file market given = gate_few 1048576 file market given
+file_is_few file market given =
+    ltb-false 1048576 (length file)
+    (is_short (nat_lt 1048576 (length file)) (of_document (document_of file)) market given)
 
 -- so all of such a file is read
 pub read_whole : (file : List ℕ) (market : Market) → file_of file ≡ Ok market
@@ -226,22 +216,23 @@ keeps_still market file stored all before written images images' images_now mome
     either_still file images images' more together least c (inr front) = inr front
 
 -- memory was wanting, or the disk failed, before the store was opened
+stops_before : (status : Status) (all output : List ℕ) → (status ≡ Memory) ⊎ (status ≡ DiskFault)
+    → output ≡ [] → StopsBefore status all all output
+stops_before status all output (inl e) nothing =
+    subst (λ (s : Status). StopsBefore s all all output) (sym e)
+    (record { nothing = nothing; unread = refl })
+stops_before status all output (inr e) nothing =
+    subst (λ (s : Status). StopsBefore s all all output) (sym e)
+    (record { nothing = nothing; unread = refl })
+
 pub stopped_before : (status : Status) (market : Market) (file stored all : List ℕ)
     (source written : Option (List ℕ)) → (status ≡ Memory) ⊎ (status ≡ DiskFault)
     → source ≡ Some all → OpenedKeep status (Ok market) file stored all source written written
-stopped_before status market file stored all source written (inl e) told = record {
+stopped_before status market file stored all source written cause told = record {
   rest = all;
   told = told;
   output = none_added written (EndsKeep status (Ok market) file stored all all)
-      (inl (subst (λ (s : Status). StopsBefore s all all []) (sym e)
-      (record { nothing = refl; unread = refl })));
-}
-stopped_before status market file stored all source written (inr e) told = record {
-  rest = all;
-  told = told;
-  output = none_added written (EndsKeep status (Ok market) file stored all all)
-      (inl (subst (λ (s : Status). StopsBefore s all all []) (sym e)
-      (record { nothing = refl; unread = refl })));
+      (inl (stops_before status all [] cause refl));
 }
 
 -- the store was not opened: nothing was written, or the store is refused
@@ -249,11 +240,9 @@ ends_stopped : (status : Status) (fault : ResumeFault) (market : Market)
     (file stored all output : List ℕ) → Stops status fault output
     → IsRefused market file stored fault → EndsKeep status (Ok market) file stored all all output
 ends_stopped status why.Disk market file stored all output stops refused =
-    inl (subst (λ (s : Status). StopsBefore s all all output) (sym stops.0)
-    (record { nothing = stops.1; unread = refl }))
+    inl (stops_before status all output (inr stops.0) stops.1)
 ends_stopped status why.Memory market file stored all output stops refused =
-    inl (subst (λ (s : Status). StopsBefore s all all output) (sym stops.0)
-    (record { nothing = stops.1; unread = refl }))
+    inl (stops_before status all output (inl stops.0) stops.1)
 ends_stopped status (why.Refused fault) market file stored all output stops refused =
     inr (inl (record { fault = fault; cause = refused; line = stops; unread = refl }))
 
@@ -448,19 +437,20 @@ done_well MarketRefused start all source before written disk disk_now inputs inp
 done_well StoreRefused start all source before written disk disk_now inputs inputs_now sink
     sink_now served ends within causes disk_steady inputs_steady sink_steady = absurd ends
 
--- a run that leaves the disk alone has the causes of one over it
-pub causes_alone : (status : Status) (disk inputs inputs_now sink sink_now : ℕ)
-    → HasCauses status inputs inputs_now sink sink_now
-    → HasKeepCauses status disk disk inputs inputs_now sink sink_now
-causes_alone Done disk inputs inputs_now sink sink_now causes = (refl, causes)
-causes_alone Usage disk inputs inputs_now sink sink_now causes = (refl, causes)
-causes_alone MarketRefused disk inputs inputs_now sink sink_now causes = (refl, causes)
-causes_alone ReadFault disk inputs inputs_now sink sink_now causes = (refl, causes)
-causes_alone WriteFault disk inputs inputs_now sink sink_now causes = (refl, causes)
-causes_alone Memory disk inputs inputs_now sink sink_now causes = (refl, causes)
-causes_alone TooMany disk inputs inputs_now sink sink_now causes = (refl, causes)
-causes_alone DiskFault disk inputs inputs_now sink sink_now causes = absurd causes
-causes_alone StoreRefused disk inputs inputs_now sink sink_now causes = absurd causes
+-- a run that leaves the disk and the inputs alone, whatever their counts are, has the causes of one
+-- over them
+pub causes_alone : (status : Status) (disk inputs sink sink_now : ℕ)
+    → ((count : ℕ) → HasCauses status count count sink sink_now)
+    → HasKeepCauses status disk disk inputs inputs sink sink_now
+causes_alone Done disk inputs sink sink_now causes = (refl, causes inputs)
+causes_alone Usage disk inputs sink sink_now causes = (refl, causes inputs)
+causes_alone MarketRefused disk inputs sink sink_now causes = (refl, causes inputs)
+causes_alone ReadFault disk inputs sink sink_now causes = (refl, causes inputs)
+causes_alone WriteFault disk inputs sink sink_now causes = (refl, causes inputs)
+causes_alone Memory disk inputs sink sink_now causes = (refl, causes inputs)
+causes_alone TooMany disk inputs sink sink_now causes = (refl, causes inputs)
+causes_alone DiskFault disk inputs sink sink_now causes = absurd (causes inputs)
+causes_alone StoreRefused disk inputs sink sink_now causes = absurd (causes inputs)
 
 -- what holds of the bytes that were read holds of the whole file, where that gives a market
 pub carried_by_file : (status : Status) (bytes file stored all : List ℕ)

@@ -1,19 +1,16 @@
 -- An honest store stays honest.
-use Rattle.std.proofs.Common.{◌≡◌, inl, inr, ℕ, ◌+◌, ◌-◌, ◌≤◌, List, [], ◌++◌, length, take, drop}
+use Rattle.std.proofs.Common.{◌≡◌, inl, inr, ℕ, ◌+◌, ◌-◌, List, [], ◌++◌, length, take, drop}
 use Rattle.std.proofs.Common.{⊎_elim, refl, sym, ◌∙◌, ap, subst, arith, take-append-drop}
 use Rattle.std.proofs.Math.Seq.{take-append-add}
-use Rattle.mk_exact.specs.Market.{Market, present}
-use Rattle.mk_reply.specs.declared.reply.Reply.{Reply}
-use Rattle.mk_rules.specs.Standings.{IsMarket, Stands}
-use Rattle.mk_rules.specs.Transcript.{Standing, Line, Run}
+use Rattle.mk_exact.specs.Market.{Market}
+use Rattle.mk_rules.specs.Standings.{IsMarket}
 use Rattle.mk_rules.proofs.Keeps.{opening_present}
 use Rattle.mk_restore.specs.Restoring.{Changes, changes_of}
 use Rattle.mk_restore.proofs.Joined.{restores_join}
 use Rattle.mk_restore.proofs.Taken.{front_stands}
 use Rattle.mk_journal.specs.Store.{StandsFor, IsStarted}
-use Rattle.mk_journal.specs.Market.{IsFront}
-use Rattle.mk_durable.specs.Recovery.{AreRecordsOf, AreTakenBack, IsHonest}
-use Rattle.mk_durable.specs.Laws.{StaysHonest}
+use Rattle.mk_durable.specs.Recovery.{IsHonest}
+use Rattle.mk_durable.specs.Laws.{FrontsAreHonest, StaysHonest}
 use Rattle.mk_durable.proofs.Histories.{records_behind, first_records}
 
 -- a file that stands for no record gives the opening
@@ -30,14 +27,7 @@ none_honest market bytes file is_market stands_for = record {
 }
 
 -- the first of the records of a run behind those before it
-pub front_honest : (market : Market) (bytes : List ℕ) (records more : List (List ℕ))
-    (old new : Standing) (lines : List Line) (replies : List Reply) (least : ℕ) (c : List ℕ)
-    → AreTakenBack market [] records old.history
-    → Stands (present market old.history) old.history
-    → Run market old lines replies new
-    → AreRecordsOf more (changes_of market old lines replies)
-    → length records ≤ least → IsFront bytes (records ++ more) least c
-    → IsHonest market bytes c
+pub front_honest : FrontsAreHonest
 front_honest market bytes records more old new lines replies least c taken stands run are no_fewer
     front =
     let changes : Changes = changes_of market old lines replies in

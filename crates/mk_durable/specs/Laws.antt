@@ -36,6 +36,18 @@ abbrev pub OneFault : Type 0
 OneFault = (market : Market) (bytes file : List ℕ) (fault other : StoreFault)
     → IsStoreFault market bytes file fault → IsStoreFault market bytes file other → fault ≡ other
 
+-- each front of the records of a run that goes on from the history that stands, with all before the
+-- run, is honest
+abbrev pub FrontsAreHonest : Type 0
+FrontsAreHonest = (market : Market) (bytes : List ℕ) (records more : List (List ℕ))
+    (old new : Standing) (lines : List Line) (replies : List Reply) (least : ℕ) (c : List ℕ)
+    → AreTakenBack market [] records old.history
+    → Stands (present market old.history) old.history
+    → Run market old lines replies new
+    → AreRecordsOf more (changes_of market old lines replies)
+    → length records ≤ least → IsFront bytes (records ++ more) least c
+    → IsHonest market bytes c
+
 -- honest stays honest: an empty file is; so is what a crash of an opening leaves; and so is each
 -- front of the records of a run that goes on from the history that stands, with all before the run
 pub record StaysHonest : Type 0 where
@@ -43,11 +55,4 @@ pub record StaysHonest : Type 0 where
   pub opening : (market : Market) (bytes file c : List ℕ) → IsMarket market
       → IsHonest market bytes c ⊎ (IsUnstarted bytes file × StandsFor bytes [] c)
       → IsHonest market bytes c
-  pub running : (market : Market) (bytes : List ℕ) (records more : List (List ℕ))
-      (old new : Standing) (lines : List Line) (replies : List Reply) (least : ℕ) (c : List ℕ)
-      → AreTakenBack market [] records old.history
-      → Stands (present market old.history) old.history
-      → Run market old lines replies new
-      → AreRecordsOf more (changes_of market old lines replies)
-      → length records ≤ least → IsFront bytes (records ++ more) least c
-      → IsHonest market bytes c
+  pub running : FrontsAreHonest

@@ -62,16 +62,14 @@ returns-in-Some-Keep-clause-refused g c = λ name file fault asked told given.
 pub returns-in-Some-Sample-clause-keep_causes : goal.returns-in-Some-Sample-clause-keep_causes
 returns-in-Some-Sample-clause-keep_causes g c =
     causes_alone c.run_sample.result (g.K.Disk.faults c.args.disk.now)
-    (g.I.Inputs.faults c.args.inputs.now) (g.I.Inputs.faults c.args.inputs.now)
-    (g.S.Sink.faults c.args.out.now) (g.S.Sink.faults c.run_sample.new.out)
-    (c.run_sample.ensures.causes (g.I.Inputs.faults c.args.inputs.now))
+    (g.I.Inputs.faults c.args.inputs.now) (g.S.Sink.faults c.args.out.now)
+    (g.S.Sink.faults c.run_sample.new.out) c.run_sample.ensures.causes
 
 pub returns-in-None-clause-keep_causes : goal.returns-in-None-clause-keep_causes
 returns-in-None-clause-keep_causes g c =
     causes_alone c.explain.result (g.K.Disk.faults c.args.disk.now)
-    (g.I.Inputs.faults c.args.inputs.now) (g.I.Inputs.faults c.args.inputs.now)
-    (g.S.Sink.faults c.args.out.now) (g.S.Sink.faults c.explain.new.out)
-    (c.explain.ensures.causes (g.I.Inputs.faults c.args.inputs.now))
+    (g.I.Inputs.faults c.args.inputs.now) (g.S.Sink.faults c.args.out.now)
+    (g.S.Sink.faults c.explain.new.out) c.explain.ensures.causes
 
 pub returns-in-Some-Audit-clause-refused : goal.returns-in-Some-Audit-clause-refused
 returns-in-Some-Audit-clause-refused g c = λ name file fault asked told given.

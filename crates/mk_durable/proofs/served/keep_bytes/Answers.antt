@@ -55,9 +55,8 @@ returns-in-Err-clause-complete g c = λ market stored all given told_all told_fi
 pub returns-in-Err-clause-causes : goal.returns-in-Err-clause-causes
 returns-in-Err-clause-causes g c =
     causes_alone c.refuse.result (g.K.Disk.faults c.args.disk.now)
-    (g.I.Inputs.faults c.args.inputs.now) (g.I.Inputs.faults c.args.inputs.now)
-    (g.S.Sink.faults c.args.out.now) (g.S.Sink.faults c.refuse.new.out)
-    (c.refuse.ensures.causes (g.I.Inputs.faults c.args.inputs.now))
+    (g.I.Inputs.faults c.args.inputs.now) (g.S.Sink.faults c.args.out.now)
+    (g.S.Sink.faults c.refuse.new.out) c.refuse.ensures.causes
 
 pub returns-in-Ok-open_place-clause-outcome : goal.returns-in-Ok-open_place-clause-outcome
 returns-in-Ok-open_place-clause-outcome g c = λ market stored all given told_all told_file sound.
